@@ -1,0 +1,75 @@
+-- Refusal 4, the commit rule, and what is applied by rising version.
+use Prim.Native.Nat.{ℕ, zero, suc, _+_, _-_, max}
+use mathlib.Core.Bool.{Bool, true, false, not, cond, _&&_, _||_}
+use mathlib.Core.List.{List, [], _∷_, _++_}
+use lib.ListN.{length}
+use lib.Dec.{ltb, eqb}
+use Rattle.model.specs.Lists.{all, allHeads, keep, those}
+use Rattle.model.specs.Geometry.{enterPage}
+use Rattle.model.specs.Zones.{Entry}
+
+-- ---- refusal 4: "a scanned whole page"
+-- "a page with nonzero TxCnt is its mark"
+abbrev pub isMark : Entry → Bool
+isMark e = not (eqb (e .cnt) 0)
+
+-- of a mark: neither "second mark of one nonzero TxID" nor "TxVer above 0 repeated"
+unfoldable pub markNew : List Entry → Entry → Bool
+markNew seen e =
+    all (λ (x : Entry). not (eqb (x .ver) (e .ver))) seen
+    && (eqb (e .id) 0 || all (λ (x : Entry). not (isMark x && eqb (x .id) (e .id))) seen)
+
+-- none of: "Kind or Reserved not 0; LPN ≥ L; only one of TxCnt, TxVer zero; TxID or TxVer 0xFFFFFFFF; TxID 0 with TxCnt not 1"
+unfoldable pub entryGood : ℕ → List Entry → Entry → Bool
+entryGood logical seen e =
+    eqb (e .kind) 0
+    && (eqb (e .reserved) 0
+    && (ltb (e .lpn) logical
+    && (not (eqb (e .id) 4294967295)
+    && (not (eqb (e .ver) 4294967295)
+    && ((not (eqb (e .id) 0) || eqb (e .cnt) 1)
+    && cond (isMark e) (not (eqb (e .ver) 0) && markNew seen e) (eqb (e .ver) 0))))))
+
+unfoldable pub pagesGood : ℕ → List Entry → Bool
+pagesGood logical es = allHeads (entryGood logical) [] es
+
+-- ---- the commit rule
+-- the entries of an identifier, in scan order
+unfoldable pub ofId : ℕ → List Entry → List Entry
+ofId i es = those (λ (e : Entry). eqb (e .id) i) es
+
+-- the whole pages of the transaction that page e is of: "Each TxID 0 page is a transaction by itself"
+unfoldable pub pagesOf : List Entry → Entry → List Entry
+pagesOf es e = cond (eqb (e .id) 0) (e ∷ []) (ofId (e .id) es)
+
+-- "committed if a whole page of it in scan order has TxCnt equal to the number of its whole pages there": e is that page
+unfoldable pub committed : List Entry → Entry → Bool
+committed es e = isMark e && eqb (e .cnt) (length (pagesOf es e))
+
+-- ---- what is applied: "by rising TxVer, the pages of one in scan order"
+-- the pages of the committed transactions of version v whose marks stand in ys
+unfoldable pub txnsIn : List Entry → ℕ → List Entry → List Entry
+txnsIn es v [] = []
+txnsIn es v (y ∷ ys) = keep (eqb (y .ver) v && committed es y) (pagesOf es y) ++ txnsIn es v ys
+
+-- the versions floor + 1 .. floor + k, in turn
+unfoldable pub span : List Entry → ℕ → ℕ → List Entry
+span es floor zero = []
+span es floor (suc k) = span es floor k ++ txnsIn es (floor + suc k) es
+
+-- the highest version
+unfoldable pub top : List Entry → ℕ
+top [] = 0
+top (e ∷ es) = max (e .ver) (top es)
+
+-- "Committed ones with TxVer above the checkpoint's last version", up to the highest
+unfoldable pub applied : ℕ → List Entry → List Entry
+applied floor es = span es floor (top es - floor)
+
+-- the map with these pages entered in turn
+unfoldable pub enter : List ℕ → List Entry → List ℕ
+enter m [] = m
+enter m (e ∷ es) = enter (enterPage m (e .lpn) (e .ppn)) es
+
+unfoldable pub redone : ℕ → List Entry → List ℕ → List ℕ
+redone floor es m = enter m (applied floor es)

@@ -1,0 +1,224 @@
+-- The commands of an open change: begin, write, lone write, commit, abort, read. Each says what it plans on what it is handed.
+use Prim.Native.Nat.{ℕ, zero, suc, _+_, _-_, _*_}
+use mathlib.Core.Bool.{Bool, true, false, not, cond, _&&_, _||_}
+use mathlib.Core.List.{List, []}
+use lib.ListN.{length, getD, set, replicate}
+use lib.Dec.{leb, ltb, eqb}
+use Rattle.model.specs.Lists.{find, part, splice}
+use Rattle.model.specs.Page.{pageBytes, dataAt}
+use Rattle.model.specs.Geometry.{unmapped, enterPage}
+use Rattle.model.specs.Zones.{availableOf, cleanIn, nextIn, scanOf, onPages, hasId, active}
+use Rattle.model.specs.World.{World, Op, none, program, Plan, refuse}
+use Rattle.model.specs.Frame.{noPlace, freePlace, badId, gate}
+use Rattle.model.specs.declared.Place.{Place}
+use Rattle.model.specs.declared.State.{State}
+
+-- go on with p where the number is 0
+abbrev pub unless : ℕ → World → Plan → Plan
+unless n w p = cond (eqb n 0) p (refuse w n)
+
+-- ---- places
+-- the place of an active identifier, or 8
+unfoldable pub placeOf : List Place → ℕ → ℕ
+placeOf ps id = cond (eqb id 0) 8 (find (hasId id) ps)
+
+unfoldable pub withPlace : State → ℕ → Place → State
+withPlace s i p =
+    record {
+      geometry = s .geometry;
+      zones = s .zones;
+      version = s .version;
+      checkpoint = s .checkpoint;
+      front = s .front;
+      first = s .first;
+      work = s .work;
+      places = set (s .places) i p;
+    }
+
+unfoldable pub withVersion : State → ℕ → State
+withVersion s v =
+    record {
+      geometry = s .geometry;
+      zones = s .zones;
+      version = v;
+      checkpoint = s .checkpoint;
+      front = s .front;
+      first = s .first;
+      work = s .work;
+      places = s .places;
+    }
+
+-- ---- taking pages
+abbrev pub cleanPages : World → ℕ
+cleanPages w = cleanIn (w .array) (w .state .geometry .pages) (availableOf (w .state .zones))
+
+-- the page to be programmed next
+abbrev pub nextPage : World → ℕ
+nextPage w = nextIn (w .array) (w .state .geometry .pages) (availableOf (w .state .zones))
+
+-- 12: "a page must be programmed and clean available pages ≤ P"
+abbrev pub zoneShort : World → Bool
+zoneShort w = leb (cleanPages w) (w .state .geometry .pages)
+
+-- 13: "a number above 0xFFFFFFFE would be needed", n numbers after v
+abbrev pub spent : ℕ → ℕ → Bool
+spent v n = ltb 4294967294 (v + n)
+
+-- a data page: Kind and Reserved 0
+unfoldable pub dataBytes : List ℕ → ℕ → ℕ → ℕ → ℕ → List ℕ
+dataBytes d lpn cnt id ver = pageBytes d (record { lpn = lpn; cnt = cnt; id = id; ver = ver; kind = 0; reserved = 0 })
+
+-- the held bytes of place i: "at 512 bytes times its place"
+unfoldable pub heldAt : ℕ → List ℕ → List ℕ
+heldAt i hold = part (512 * i) 512 hold
+
+-- the hold with other bytes there
+unfoldable pub holdWith : List ℕ → ℕ → List ℕ → List ℕ
+holdWith hold i d = splice hold (512 * i) 512 d
+
+-- the logical page that a place holds
+abbrev pub heldPage : Place → ℕ
+heldPage p = getD (p .lpns) (p .count - 1) 0
+
+-- ---- begin: 6, 7, 9; it "takes the lowest free one, counted from 0"
+unfoldable pub begun : ℕ → Place
+begun id = record { id = id; count = 0; lpns = replicate 64 0; ppns = replicate 64 0 }
+
+-- 7: "active, or on a whole page in scan order"
+unfoldable pub liveId : ℕ → World → Bool
+liveId id w = active id (w .state .places) || onPages id (scanOf (w .array) (w .state .geometry .pages) (w .state .zones))
+
+unfoldable pub planBegin : ℕ → World → Plan
+planBegin id w =
+    let s = w .state in
+    let free = find (hasId 0) (s .places) in
+    unless (gate false w) w
+    (cond (badId id) (refuse w 6)
+    (cond (liveId id w) (refuse w 7)
+    (cond (leb 8 free) (refuse w 9)
+    (record { answer = 0; op = none; map = w .map; hold = w .hold; state = withPlace s free (begun id) }))))
+
+-- ---- write: 11, 5, 8, 10, 12
+-- the longest change: "64 pages already written" is too long
+abbrev pub longestChange : ℕ
+longestChange = 64
+
+-- the place with one more page, held, the one held before being programmed on page k
+unfoldable pub written : Place → ℕ → ℕ → Place
+written p k lpn =
+    record {
+      id = p .id;
+      count = p .count + 1;
+      lpns = set (p .lpns) (p .count) lpn;
+      ppns = cond (eqb (p .count) 0) (p .ppns) (set (p .ppns) (p .count - 1) k);
+    }
+
+-- "The next write first programs the held page with TxCnt 0 and TxVer 0"
+unfoldable pub heldOp : World → ℕ → Place → Op
+heldOp w i p = cond (eqb (p .count) 0) none (program (nextPage w) (dataBytes (heldAt i (w .hold)) (heldPage p) 0 (p .id) 0))
+
+unfoldable pub writePlan : ℕ → Place → ℕ → List ℕ → World → Plan
+writePlan i p lpn d w =
+    record {
+      answer = 0;
+      op = heldOp w i p;
+      map = w .map;
+      hold = holdWith (w .hold) i d;
+      state = withPlace (w .state) i (written p (nextPage w) lpn);
+    }
+
+unfoldable pub planWrite : ℕ → ℕ → List ℕ → World → Plan
+planWrite id lpn d w =
+    let s = w .state in
+    let i = placeOf (s .places) id in
+    let p = getD (s .places) i noPlace in
+    unless (gate false w) w
+    (cond (not (eqb (length d) 512)) (refuse w 11)
+    (cond (leb (s .geometry .logical) lpn) (refuse w 5)
+    (cond (leb 8 i) (refuse w 8)
+    (cond (leb longestChange (p .count)) (refuse w 10)
+    (cond (not (eqb (p .count) 0) && zoneShort w) (refuse w 12)
+    (writePlan i p lpn d w))))))
+
+-- ---- lone write: 11, 5, 13, 12; "TxID 0, TxCnt 1, next TxVer"
+-- programming d as the only page of its transaction, and the map and version that follow
+abbrev pub loneOp : ℕ → List ℕ → World → Op
+loneOp lpn d w = program (nextPage w) (dataBytes d lpn 1 0 (w .state .version + 1))
+
+abbrev pub loneMap : ℕ → World → List ℕ
+loneMap lpn w = enterPage (w .map) lpn (nextPage w)
+
+unfoldable pub lonePlan : ℕ → List ℕ → World → Plan
+lonePlan lpn d w =
+    record {
+      answer = 0;
+      op = loneOp lpn d w;
+      map = loneMap lpn w;
+      hold = w .hold;
+      state = withVersion (w .state) (w .state .version + 1);
+    }
+
+unfoldable pub planLone : ℕ → List ℕ → World → Plan
+planLone lpn d w =
+    let s = w .state in
+    unless (gate false w) w
+    (cond (not (eqb (length d) 512)) (refuse w 11)
+    (cond (leb (s .geometry .logical) lpn) (refuse w 5)
+    (cond (spent (s .version) 1) (refuse w 13)
+    (cond (zoneShort w) (refuse w 12)
+    (lonePlan lpn d w)))))
+
+-- ---- commit: 8; 13, 12 "only with a held page"
+-- the map with the first n pages of a place entered "in write order"
+unfoldable pub entered : List ℕ → List ℕ → List ℕ → ℕ → List ℕ
+entered map lpns ppns zero = map
+entered map lpns ppns (suc n) = enterPage (entered map lpns ppns n) (getD lpns n 0) (getD ppns n 0)
+
+-- "Commit programs the held page with TxCnt = all pages of the transaction and TxVer = last version + 1 .., then sets the map"
+unfoldable pub markPlan : ℕ → Place → World → Plan
+markPlan i p w =
+    let s = w .state in
+    let k = nextPage w in
+    record {
+      answer = 0;
+      op = program k (dataBytes (heldAt i (w .hold)) (heldPage p) (p .count) (p .id) (s .version + 1));
+      map = entered (w .map) (p .lpns) (set (p .ppns) (p .count - 1) k) (p .count);
+      hold = w .hold;
+      state = withPlace (withVersion s (s .version + 1)) i freePlace;
+    }
+
+-- "Abort forgets the place"; "With nothing written, commit is done with no page and no version"
+unfoldable pub forgetPlan : ℕ → World → Plan
+forgetPlan i w = record { answer = 0; op = none; map = w .map; hold = w .hold; state = withPlace (w .state) i freePlace }
+
+unfoldable pub planCommit : ℕ → World → Plan
+planCommit id w =
+    let s = w .state in
+    let i = placeOf (s .places) id in
+    let p = getD (s .places) i noPlace in
+    unless (gate false w) w
+    (cond (leb 8 i) (refuse w 8)
+    (cond (eqb (p .count) 0) (forgetPlan i w)
+    (cond (spent (s .version) 1) (refuse w 13)
+    (cond (zoneShort w) (refuse w 12)
+    (markPlan i p w)))))
+
+-- ---- abort: 8
+unfoldable pub planAbort : ℕ → World → Plan
+planAbort id w =
+    let i = placeOf (w .state .places) id in
+    unless (gate false w) w
+    (cond (leb 8 i) (refuse w 8)
+    (forgetPlan i w))
+
+-- ---- read: 5, 14; it is never busy, and changes nothing
+unfoldable pub readAnswer : ℕ → World → ℕ
+readAnswer lpn w =
+    cond (eqb (gate true w) 0)
+    (cond (leb (w .state .geometry .logical) lpn) 5
+    (cond (eqb (getD (w .map) lpn unmapped) unmapped) 14 0))
+    1
+
+-- "the 512 bytes of the mapped page as they stand in the array", "empty where refused"
+unfoldable pub readPart : ℕ → World → List ℕ
+readPart lpn w = cond (eqb (readAnswer lpn w) 0) (dataAt (w .array) (getD (w .map) lpn unmapped)) []
