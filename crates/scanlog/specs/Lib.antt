@@ -1,0 +1,7 @@
+pub mod Base
+pub mod Sublist
+pub mod Occ
+pub mod Log
+pub mod Good
+pub mod Gone
+pub mod Logged
