@@ -2,7 +2,7 @@
 -- a new version, or a lone page.
 use mathlib.Core.Path.{_≡_, refl}
 use mathlib.Core.Logic.{inl, inr, _≢_}
-use mathlib.Core.Bool.{Bool, true, false, not, _&&_, _||_}
+use mathlib.Core.Bool.{Bool, true, false, not, cond, _&&_, _||_}
 use Prim.Native.Nat.{ℕ, _≤_, _<_}
 use native.Mathlib.Omega.{arith}
 use mathlib.Core.List.{List, [], _∷_, _++_}
@@ -11,21 +11,28 @@ use borrow.Author.Tests.{eq-eqb, ne-eqb, lt-ltb}
 use Rattle.model.specs.Lists.{all, allHeads}
 use Rattle.model.specs.Zones.{Entry}
 use Rattle.model.specs.Recovery.{isMark, markNew, entryGood, pagesGood, top}
-use Rattle.scanlog.specs.Base.{Is, eqb-cases, and-mono, and-mono₂, or-mono, cond-mono}
-use Rattle.scanlog.specs.Sublist.{Sublist, nil, skip, both, all-sub, heads-sub, heads-append}
+use Rattle.arrays.specs.Tests.{Is, eqb-cases, and-weaker, or-weaker, heads-append}
+use Rattle.scanlog.specs.Sublist.{Sublist, nil, skip, both, all-sub, heads-sub}
 use Rattle.scanlog.specs.Log.{NoMark}
 
 -- ---- a sublist
 new-sub : {us vs : List Entry} (e : Entry) → Sublist us vs → markNew vs e ≡ true → markNew us e ≡ true
 unfolding markNew
 new-sub {us} {vs} e s h =
-    and-mono₂ (all (λ (x : Entry). not (eqb (x .ver) (e .ver))) vs) (all-sub _ s) (or-mono (eqb (e .id) 0) (all-sub _ s)) h
+    and-weaker (all (λ (x : Entry). not (eqb (x .ver) (e .ver))) vs) (all-sub _ s) (or-weaker (eqb (e .id) 0) (λ k. k) (all-sub _ s)) h
 
 good-sub : (logical : ℕ) (us vs : List Entry) (e : Entry) → Sublist us vs → entryGood logical vs e ≡ true → entryGood logical us e ≡ true
 unfolding entryGood
 good-sub logical us vs e s =
-    and-mono (eqb (e .kind) 0) (and-mono (eqb (e .reserved) 0) (and-mono (ltb (e .lpn) logical) (and-mono (not (eqb (e .id) 4294967295)) (and-mono (not (eqb (e .ver) 4294967295))
-    (and-mono (not (eqb (e .id) 0) || eqb (e .cnt) 1) (cond-mono (isMark e) (eqb (e .ver) 0) (and-mono (not (eqb (e .ver) 0)) (new-sub e s))))))))
+    then (eqb (e .kind) 0) (then (eqb (e .reserved) 0) (then (ltb (e .lpn) logical) (then (not (eqb (e .id) 4294967295)) (then (not (eqb (e .ver) 4294967295))
+    (then (not (eqb (e .id) 0) || eqb (e .cnt) 1) (mark (isMark e)))))))
+  where
+    then : (a : Bool) {b c : Bool} → (b ≡ true → c ≡ true) → (a && b) ≡ true → (a && c) ≡ true
+    then a = and-weaker a (λ k. k)
+
+    mark : (a : Bool) → cond a (not (eqb (e .ver) 0) && markNew vs e) (eqb (e .ver) 0) ≡ true → cond a (not (eqb (e .ver) 0) && markNew us e) (eqb (e .ver) 0) ≡ true
+    mark true k = then (not (eqb (e .ver) 0)) (new-sub e s) k
+    mark false k = k
 
 pub pagesGood-sub : (logical : ℕ) {xs ys : List Entry} → Sublist xs ys → pagesGood logical ys ≡ true → pagesGood logical xs ≡ true
 unfolding pagesGood

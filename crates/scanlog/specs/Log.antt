@@ -14,8 +14,8 @@ use Rattle.model.specs.Lists.{keep}
 use Rattle.model.specs.Geometry.{enterPage}
 use Rattle.model.specs.Zones.{Entry}
 use Rattle.model.specs.Recovery.{ofId, pagesOf, committed, txnsIn, span, top, applied, enter, redone}
-use Rattle.scanlog.specs.Base.{Is, eqb-cases}
-use Rattle.scanlog.specs.Sublist.{those-append, those-yes, those-no}
+use Rattle.arrays.specs.Tests.{Is, eqb-cases, those-append}
+use Rattle.scanlog.specs.Sublist.{those-last, those-not-last}
 
 -- ---- the entries of an identifier
 pub ofId-append : (i : ℕ) (xs ys : List Entry) → ofId i (xs ++ ys) ≡ ofId i xs ++ ofId i ys
@@ -24,11 +24,11 @@ ofId-append i xs ys = those-append (λ (e : Entry). eqb (e .id) i) xs ys
 
 pub ofId-other : (i : ℕ) (xs : List Entry) (e : Entry) → e .id ≢ i → ofId i (xs ++ (e ∷ [])) ≡ ofId i xs
 unfolding ofId
-ofId-other i xs e n = those-no (λ (e : Entry). eqb (e .id) i) xs e (ne-eqb (e .id) i n)
+ofId-other i xs e n = those-not-last (λ (e : Entry). eqb (e .id) i) xs e (ne-eqb (e .id) i n)
 
 pub ofId-same : (i : ℕ) (xs : List Entry) (e : Entry) → e .id ≡ i → ofId i (xs ++ (e ∷ [])) ≡ ofId i xs ++ (e ∷ [])
 unfolding ofId
-ofId-same i xs e h = those-yes (λ (e : Entry). eqb (e .id) i) xs e (eq-eqb (e .id) i h)
+ofId-same i xs e h = those-last (λ (e : Entry). eqb (e .id) i) xs e (eq-eqb (e .id) i h)
 
 -- ---- the transactions of a version
 -- no mark of the entries but a lone one has e's identifier

@@ -13,7 +13,7 @@ use Rattle.model.specs.Lists.{any, allHeads, those}
 use Rattle.model.specs.Geometry.{enterPage}
 use Rattle.model.specs.Zones.{Entry, onPages}
 use Rattle.model.specs.Recovery.{ofId, top, enter, redone, pagesGood}
-use Rattle.scanlog.specs.Base.{or-left, or-right}
+use Rattle.arrays.specs.Tests.{or-false-left, or-false-right}
 use Rattle.scanlog.specs.Sublist.{Sublist}
 use Rattle.scanlog.specs.Log.{NoMark, redone-page, redone-mark, redone-lone, redone-none, top-one}
 use Rattle.scanlog.specs.Good.{Plain, pagesGood-sub, pagesGood-one, good-page, good-mark, good-lone, top-sub}
@@ -74,12 +74,12 @@ pub off-mark : (i : ℕ) (es : List Entry) → onPages i es ≡ false → NoMark
 unfolding onPages any
 off-mark i [] h = tt
 off-mark i (e ∷ es) h = (
-  (λ q. absurd (eqb-false (e .id) i (or-left (eqb (e .id) i) (any (λ (e : Entry). eqb (e .id) i) es) h) q)),
-  off-mark i es (or-right (eqb (e .id) i) (any (λ (e : Entry). eqb (e .id) i) es) h),
+  (λ q. absurd (eqb-false (e .id) i (or-false-left (eqb (e .id) i) (any (λ (e : Entry). eqb (e .id) i) es) h) q)),
+  off-mark i es (or-false-right (eqb (e .id) i) (any (λ (e : Entry). eqb (e .id) i) es) h),
 )
 
 pub off-none : (i : ℕ) (es : List Entry) → onPages i es ≡ false → ofId i es ≡ []
 unfolding onPages any ofId those
 off-none i [] h = refl
 off-none i (e ∷ es) h =
-    rw (or-left (eqb (e .id) i) (any (λ (e : Entry). eqb (e .id) i) es) h) (off-none i es (or-right (eqb (e .id) i) (any (λ (e : Entry). eqb (e .id) i) es) h))
+    rw (or-false-left (eqb (e .id) i) (any (λ (e : Entry). eqb (e .id) i) es) h) (off-none i es (or-false-right (eqb (e .id) i) (any (λ (e : Entry). eqb (e .id) i) es) h))

@@ -1,23 +1,22 @@
 -- How often a number stands in a list: lists in which none is repeated, by counting.
-use mathlib.Core.Path.{_≡_, refl}
+use mathlib.Core.Path.{_≡_, refl, sym, ap}
 use mathlib.Core.Logic.{inl, inr, _≢_}
-use mathlib.Core.Bool.{Bool, true, false, not, cond, _&&_, _||_}
-use Prim.Native.Nat.{ℕ, suc, _+_, _≤_, _<_}
+use mathlib.Core.Bool.{Bool, true, false, not, cond, _||_}
+use Prim.Native.Nat.{ℕ, zero, suc, _+_, _≤_, _<_}
 use native.Mathlib.Omega.{arith}
 use mathlib.Core.List.{List, [], _∷_, _++_}
+use lib.ListN.{length}
 use lib.Dec.{eqb}
-use borrow.Author.Tests.{eq-eqb, ne-eqb, not-true}
-use Rattle.model.specs.Lists.{count, any, elem, allHeads}
-use Rattle.model.specs.Geometry.{dataBlock}
-use Rattle.model.specs.Zones.{newBlock}
-use Rattle.model.specs.declared.Geometry.{Geometry}
-use Rattle.scanlog.specs.Base.{Is, eqb-cases, false-true, and-left, and-right}
-use Rattle.scanlog.specs.Sublist.{Sublist, nil, skip, both}
+use borrow.Author.Tests.{eq-eqb, ne-eqb}
+use Rattle.model.specs.Lists.{count, any, elem, keep, those}
+use Rattle.arrays.specs.Tests.{clash, Is, eqb-cases}
+use Rattle.scanlog.specs.Sublist.{Sublist, nil, skip, both, sub-those}
 
+-- how often b stands in the list
 unfoldable pub occ : ℕ → List ℕ → ℕ
 occ b xs = count (eqb b) xs
 
--- no number twice
+-- no number stands there twice
 abbrev pub Distinct : List ℕ → Type 0
 Distinct xs = (c : ℕ) → occ c xs ≤ 1
 
@@ -62,7 +61,7 @@ elem-occ b [] e = occ-nil b
 elem-occ b (x ∷ xs) e = go (eqb-cases b x) (λ k. elem-occ b xs k)
   where
     go : Is b x → (any (eqb b) xs ≡ false → occ b xs ≡ 0) → occ b (x ∷ xs) ≡ 0
-    go (inl q) ih = let z : true ≡ false = rw (q .1) at e in false-true z refl
+    go (inl q) ih = let z : true ≡ false = rw (q .1) at e in clash refl z
     go (inr q) ih = let z : any (eqb b) xs ≡ false = rw (q .1) at e in omega (arith, occ-cons b x xs, occ-no b x (q .0), ih z)
 
 pub occ-elem : (b : ℕ) (xs : List ℕ) → occ b xs ≡ 0 → elem b xs ≡ false
@@ -74,43 +73,64 @@ occ-elem b (x ∷ xs) e = go (eqb-cases b x) (λ k. occ-elem b xs k)
     go (inl q) ih = absurd (omega (arith, occ-cons b x xs, occ-yes b x (q .0)))
     go (inr q) ih = rw (q .1) (ih (omega (arith, occ-cons b x xs)))
 
--- ---- the blocks of the zones, by counting
--- each is a data block, and stands once
-pub record Once (g : Geometry) (seen bs : List ℕ) (b : ℕ) : Type 0 where
-  pub block : dataBlock g b ≡ true
-  pub once : occ b seen + occ b bs ≤ 1
+-- ---- a test splits a list
+module _ (t : ℕ → Bool) where
+  pub split-occ : (c : ℕ) (bs : List ℕ) → occ c (those t bs) + occ c (those (λ (b : ℕ). not (t b)) bs) ≡ occ c bs
+  unfolding those
+  split-occ c [] = omega (arith, occ-nil c)
+  split-occ c (b ∷ bs) = go (t b) (split-occ c bs)
+    where
+      go : (v : Bool) → occ c (those t bs) + occ c (those (λ (b : ℕ). not (t b)) bs) ≡ occ c bs
+          → occ c (keep v (b ∷ []) ++ those t bs) + occ c (keep (not v) (b ∷ []) ++ those (λ (b : ℕ). not (t b)) bs) ≡ occ c (b ∷ bs)
+      go true ih = omega (arith, occ-cons c b bs, occ-cons c b (those t bs))
+      go false ih = omega (arith, occ-cons c b bs, occ-cons c b (those (λ (b : ℕ). not (t b)) bs))
 
-pub heads-once : (g : Geometry) (seen bs : List ℕ) → allHeads (newBlock g) seen bs ≡ true → (b : ℕ) → 0 < occ b bs → Once g seen bs b
-unfolding allHeads newBlock
-heads-once g seen [] h b k = absurd (omega (arith, occ-nil b))
-heads-once g seen (x ∷ bs) h b k = go (eqb-cases b x) (eqb-cases (occ b bs) 0) (heads-once g (seen ++ (x ∷ [])) bs tail b)
+  pub split-length : (bs : List ℕ) → length (those t bs) + length (those (λ (b : ℕ). not (t b)) bs) ≡ length bs
+  unfolding those
+  split-length [] = omega arith
+  split-length (b ∷ bs) = go (t b) (split-length bs)
+    where
+      go : (v : Bool) → length (those t bs) + length (those (λ (b : ℕ). not (t b)) bs) ≡ length bs
+          → length (keep v (b ∷ []) ++ those t bs) + length (keep (not v) (b ∷ []) ++ those (λ (b : ℕ). not (t b)) bs) ≡ suc (length bs)
+      go true ih = omega arith
+      go false ih = omega arith
+
+-- ---- different numbers of a range are no more than the range has
+test-length : (c : ℕ) (bs : List ℕ) → length (those (eqb c) bs) ≡ occ c bs
+unfolding those
+test-length c [] = sym (occ-nil c)
+test-length c (b ∷ bs) = go (eqb-cases c b) (test-length c bs)
   where
-    head : (dataBlock g x && not (elem x seen)) ≡ true
-    head = and-left (dataBlock g x && not (elem x seen)) (allHeads (newBlock g) (seen ++ (x ∷ [])) bs) h
+    go : Is c b → length (those (eqb c) bs) ≡ occ c bs → length (keep (eqb c b) (b ∷ []) ++ those (eqb c) bs) ≡ occ c (b ∷ bs)
+    go (inl q) ih = rw (q .1) (omega (arith, occ-cons c b bs, occ-yes c b (q .0)))
+    go (inr q) ih = rw (q .1) (omega (arith, occ-cons c b bs, occ-no c b (q .0)))
 
-    tail : allHeads (newBlock g) (seen ++ (x ∷ [])) bs ≡ true
-    tail = and-right (dataBlock g x && not (elem x seen)) (allHeads (newBlock g) (seen ++ (x ∷ [])) bs) h
+unequal-occ : (c : ℕ) (bs : List ℕ) → occ c (those (λ (b : ℕ). not (eqb c b)) bs) ≡ 0
+unfolding those
+unequal-occ c [] = occ-nil c
+unequal-occ c (b ∷ bs) = go (eqb-cases c b) (unequal-occ c bs)
+  where
+    rest : List ℕ
+    rest = those (λ (b : ℕ). not (eqb c b)) bs
 
-    go : Is b x → Is (occ b bs) 0 → (0 < occ b bs → Once g (seen ++ (x ∷ [])) bs b) → Once g seen (x ∷ bs) b
-    go (inl q) (inl n) ih =
-        let z : occ x seen ≡ 0 = elem-occ x seen (not-true (elem x seen) (and-right (dataBlock g x) (not (elem x seen)) head)) in
-        let y : occ b seen ≡ 0 = rw (q .0) z in
-        record {
-          block = rw (q .0) (and-left (dataBlock g x) (not (elem x seen)) head);
-          once = omega (arith, n .0, occ-cons b x bs, occ-yes b x (q .0));
-        }
-    go (inl q) (inr n) ih = let o = ih (omega (arith, n .0)) in record { block = o .block; once = omega (arith, o .once, occ-append b seen (x ∷ []), occ-cons b x bs) }
-    go (inr q) (inl n) ih = absurd (omega (arith, occ-cons b x bs, occ-no b x (q .0), n .0))
-    go (inr q) (inr n) ih = let o = ih (omega (arith, n .0)) in record { block = o .block; once = omega (arith, o .once, occ-append b seen (x ∷ []), occ-cons b x bs) }
+    go : Is c b → occ c rest ≡ 0 → occ c (keep (not (eqb c b)) (b ∷ []) ++ rest) ≡ 0
+    go (inl q) ih = rw (q .1) ih
+    go (inr q) ih = rw (q .1) (omega (arith, occ-cons c b rest, occ-no c b (q .0)))
 
-pub once-heads : (g : Geometry) (seen bs : List ℕ) → ((b : ℕ) → 0 < occ b bs → Once g seen bs b) → allHeads (newBlock g) seen bs ≡ true
-unfolding allHeads newBlock
-once-heads g seen [] h = refl
-once-heads g seen (x ∷ bs) h =
-    let o = h x (omega (arith, occ-cons x x bs, occ-yes x x refl)) in
-    let z : elem x seen ≡ false = occ-elem x seen (omega (arith, o .once, occ-cons x x bs, occ-yes x x refl)) in
-    let t : allHeads (newBlock g) (seen ++ (x ∷ [])) bs ≡ true
-    = once-heads g (seen ++ (x ∷ [])) bs (λ b k.
-    let q = h b (omega (arith, occ-cons b x bs)) in
-    record { block = q .block; once = omega (arith, q .once, occ-append b seen (x ∷ []), occ-cons b x bs) }) in
-    rw (o .block, z, t)
+pub pigeon : (k n : ℕ) (bs : List ℕ) → Distinct bs → ((c : ℕ) → 0 < occ c bs → k ≤ c) → ((c : ℕ) → 0 < occ c bs → c < k + n) → length bs ≤ n
+pigeon k zero [] d l h = omega arith
+pigeon k zero (b ∷ bs) d l h =
+    let o : 0 < occ b (b ∷ bs) = omega (arith, occ-cons b b bs, occ-yes b b refl) in
+    absurd (omega (arith, l b o, h b o))
+pigeon k (suc n) bs d l h =
+    let c = k + n in
+    let rest = those (λ (b : ℕ). not (eqb c b)) bs in
+    let s : (b : ℕ) → occ b rest ≤ occ b bs = λ b. occ-sub b (sub-those (λ (b : ℕ). not (eqb c b)) bs) in
+    let r : length rest ≤ n
+    = pigeon k n rest (λ b. omega (arith, s b, d b)) (λ b j. l b (omega (arith, s b)))
+    (λ b j. below b (eqb-cases b c) j (h b (omega (arith, s b)))) in
+    omega (arith, split-length (eqb c) bs, test-length c bs, d c)
+  where
+    below : (b : ℕ) → Is b (k + n) → 0 < occ b (those (λ (b : ℕ). not (eqb (k + n) b)) bs) → b < k + suc n → b < k + n
+    below b (inl q) j i = absurd (omega (arith, unequal-occ (k + n) bs, ap (λ (x : ℕ). occ x (those (λ (b : ℕ). not (eqb (k + n) b)) bs)) (q .0)))
+    below b (inr q) j i = omega (arith, q .0)

@@ -1,12 +1,12 @@
 -- Sublists, in order: what is left of a list when some elements go, and the tests that it passes with the whole.
-use mathlib.Core.Path.{_≡_, refl, sym, _∙_}
+use mathlib.Core.Path.{_≡_, _∙_}
 use mathlib.Core.Bool.{Bool, true, false}
 use Prim.Native.Nat.{_≤_}
 use native.Mathlib.Omega.{arith}
-use mathlib.Core.List.{List, [], _∷_, _++_, append-nil, append-assoc}
+use mathlib.Core.List.{List, [], _∷_, _++_, append-nil}
 use lib.ListN.{length}
 use Rattle.model.specs.Lists.{all, allHeads, allTails, keep, those}
-use Rattle.scanlog.specs.Base.{and-left, and-right, and-both, and-mono, and-mono₂}
+use Rattle.arrays.specs.Tests.{and-right, and-weaker, those-append}
 
 -- the first list is what is left of the second when some elements go
 pub data Sublist {A : Type 0} : List A → List A → Type 0 where
@@ -54,18 +54,14 @@ module _ {A : Type 0} where
       go true s = both x s
       go false s = skip x s
 
-  pub those-append : (p : A → Bool) (xs ys : List A) → those p (xs ++ ys) ≡ those p xs ++ those p ys
+  -- at the end
+  pub those-last : (p : A → Bool) (xs : List A) (x : A) → p x ≡ true → those p (xs ++ (x ∷ [])) ≡ those p xs ++ (x ∷ [])
   unfolding those
-  those-append p [] ys = refl
-  those-append p (x ∷ xs) ys = rw (those-append p xs ys) (sym (append-assoc (keep (p x) (x ∷ [])) (those p xs) (those p ys)))
+  those-last p xs x e = those-append p xs (x ∷ []) ∙ rw e
 
-  pub those-yes : (p : A → Bool) (xs : List A) (x : A) → p x ≡ true → those p (xs ++ (x ∷ [])) ≡ those p xs ++ (x ∷ [])
+  pub those-not-last : (p : A → Bool) (xs : List A) (x : A) → p x ≡ false → those p (xs ++ (x ∷ [])) ≡ those p xs
   unfolding those
-  those-yes p xs x e = those-append p xs (x ∷ []) ∙ rw e
-
-  pub those-no : (p : A → Bool) (xs : List A) (x : A) → p x ≡ false → those p (xs ++ (x ∷ [])) ≡ those p xs
-  unfolding those
-  those-no p xs x e = those-append p xs (x ∷ []) ∙ rw e (append-nil (those p xs))
+  those-not-last p xs x e = those-append p xs (x ∷ []) ∙ rw e (append-nil (those p xs))
 
   pub sub-those-both : (p : A → Bool) {xs ys : List A} → Sublist xs ys → Sublist (those p xs) (those p ys)
   unfolding those
@@ -78,14 +74,14 @@ module _ {A : Type 0} where
   unfolding all
   all-sub p nil e = e
   all-sub p (skip {ys = ys} y s) e = all-sub p s (and-right (p y) (all p ys) e)
-  all-sub p (both y s) e = and-mono (p y) (all-sub p s) e
+  all-sub p (both y s) e = and-weaker (p y) (λ h. h) (all-sub p s) e
 
   pub tails-sub : (f : A → List A → Bool) → ((us vs : List A) (x : A) → Sublist us vs → f x vs ≡ true → f x us ≡ true)
       → {xs ys : List A} → Sublist xs ys → allTails f ys ≡ true → allTails f xs ≡ true
   unfolding allTails
   tails-sub f m nil e = e
   tails-sub f m (skip {ys = ys} y s) e = tails-sub f m s (and-right (f y ys) (allTails f ys) e)
-  tails-sub f m (both {xs = xs} {ys = ys} y s) e = and-mono₂ (f y ys) (m xs ys y s) (tails-sub f m s) e
+  tails-sub f m (both {xs = xs} {ys = ys} y s) e = and-weaker (f y ys) (m xs ys y s) (tails-sub f m s) e
 
   pub heads-sub : (f : List A → A → Bool) → ((us vs : List A) (x : A) → Sublist us vs → f vs x ≡ true → f us x ≡ true)
       → {xs ys : List A} → Sublist xs ys → (us vs : List A) → Sublist us vs → allHeads f vs ys ≡ true → allHeads f us xs ≡ true
@@ -93,11 +89,4 @@ module _ {A : Type 0} where
   heads-sub f m nil us vs t e = e
   heads-sub f m (skip {ys = ys} y s) us vs t e = heads-sub f m s us (vs ++ (y ∷ [])) (sub-more y t) (and-right (f vs y) (allHeads f (vs ++ (y ∷ [])) ys) e)
   heads-sub f m (both {ys = ys} y s) us vs t e =
-      and-mono₂ (f vs y) (m us vs y t) (heads-sub f m s (us ++ (y ∷ [])) (vs ++ (y ∷ [])) (sub-append t (sub-refl (y ∷ [])))) e
-
-  pub heads-append : (f : List A → A → Bool) (seen xs ys : List A) → allHeads f seen xs ≡ true → allHeads f (seen ++ xs) ys ≡ true → allHeads f seen (xs ++ ys) ≡ true
-  unfolding allHeads
-  heads-append f seen [] ys h k = rw append-nil at k
-  heads-append f seen (x ∷ xs) ys h k =
-      and-both (f seen x) (allHeads f (seen ++ (x ∷ [])) (xs ++ ys)) (and-left (f seen x) (allHeads f (seen ++ (x ∷ [])) xs) h)
-      (heads-append f (seen ++ (x ∷ [])) xs ys (and-right (f seen x) (allHeads f (seen ++ (x ∷ [])) xs) h) (rw (append-assoc seen (x ∷ []) xs) k))
+      and-weaker (f vs y) (m us vs y t) (heads-sub f m s (us ++ (y ∷ [])) (vs ++ (y ∷ [])) (sub-append t (sub-refl (y ∷ [])))) e
