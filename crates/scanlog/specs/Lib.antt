@@ -1,0 +1,9 @@
+pub mod Sublist
+pub mod Occ
+pub mod Rising
+pub mod Log
+pub mod Good
+pub mod Gone
+pub mod Logged
+pub mod Shape
+pub mod Take

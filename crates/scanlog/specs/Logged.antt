@@ -1,0 +1,85 @@
+-- A log with the map and the last version that recovery makes of it: what each kind of entry, and a checkpoint, does to them. Rule 4 holds on,
+-- since an identifier with an entry is refused to a new change, versions are new and a mark closes its transaction.
+use mathlib.Core.Path.{_≡_, refl, ap, _∙_}
+use mathlib.Core.Logic.{_≢_}
+use mathlib.Core.Bool.{true, false}
+use Prim.Native.Nat.{ℕ, suc, max}
+use native.Mathlib.Omega.{arith}
+use mathlib.Core.List.{List, [], _∷_, _++_}
+use lib.ListN.{length}
+use lib.Dec.{eqb}
+use borrow.Author.Tests.{eqb-false}
+use Rattle.model.specs.Lists.{any, allHeads, those}
+use Rattle.model.specs.Geometry.{enterPage}
+use Rattle.model.specs.Zones.{Entry, onPages}
+use Rattle.model.specs.Recovery.{ofId, top, enter, redone, pagesGood}
+use Rattle.arrays.specs.Tests.{or-false-left, or-false-right}
+use Rattle.scanlog.specs.Sublist.{Sublist}
+use Rattle.scanlog.specs.Log.{NoMark, redone-page, redone-mark, redone-lone, redone-none, top-one}
+use Rattle.scanlog.specs.Good.{Plain, pagesGood-sub, pagesGood-one, good-page, good-mark, good-lone, top-sub}
+
+-- saved: the map of the checkpoint, floor: its last version; es: the scan; map and version: what recovery makes of them
+pub record Logged (logical floor : ℕ) (saved : List ℕ) (es : List Entry) (map : List ℕ) (version : ℕ) : Type 0 where
+  pub good : pagesGood logical es ≡ true
+  pub made : redone floor es saved ≡ map
+  pub last : max floor (top es) ≡ version
+
+-- a scan with no entry
+pub logged-start : (logical version : ℕ) (map : List ℕ) → Logged logical version map [] map version
+unfolding pagesGood allHeads top
+logged-start logical version map = record { good = refl; made = redone-none version map [] (omega arith); last = omega arith }
+
+module _ (logical floor : ℕ) (saved : List ℕ) (es : List Entry) (map : List ℕ) (version : ℕ) (h : Logged logical floor saved es map version) (e : Entry) (plain : Plain logical e) where
+  -- a page of an open change
+  pub logged-page : e .id ≢ 0 → e .cnt ≡ 0 → e .ver ≡ 0 → NoMark (e .id) es → Logged logical floor saved (es ++ (e ∷ [])) map version
+  logged-page i c v n = record {
+    good = pagesGood-one logical es e (h .good) (good-page logical es e plain i c v);
+    made = redone-page floor saved es e c v n ∙ h .made;
+    last = omega (arith, h .last, top-one es e);
+  }
+
+  -- the mark that closes it
+  pub logged-mark : e .id ≢ 0 → NoMark (e .id) es → e .cnt ≡ suc (length (ofId (e .id) es)) → e .ver ≡ suc version
+      → Logged logical floor saved (es ++ (e ∷ [])) (enter map (ofId (e .id) es ++ (e ∷ []))) (suc version)
+  logged-mark i n c v = record {
+    good = pagesGood-one logical es e (h .good) (good-mark logical es e plain i n (omega arith) (omega (arith, h .last)));
+    made = redone-mark floor saved es e i n c (omega (arith, h .last)) ∙ ap (λ (m : List ℕ). enter m (ofId (e .id) es ++ (e ∷ []))) (h .made);
+    last = omega (arith, h .last, top-one es e);
+  }
+
+  -- a lone page
+  pub logged-lone : e .id ≡ 0 → e .cnt ≡ 1 → e .ver ≡ suc version → Logged logical floor saved (es ++ (e ∷ [])) (enterPage map (e .lpn) (e .ppn)) (suc version)
+  logged-lone i c v = record {
+    good = pagesGood-one logical es e (h .good) (good-lone logical es e plain i c (omega (arith, h .last)));
+    made = redone-lone floor saved es e i c (omega (arith, h .last)) ∙ ap (λ (m : List ℕ). enterPage m (e .lpn) (e .ppn)) (h .made);
+    last = omega (arith, h .last, top-one es e);
+  }
+
+-- a checkpoint saves map and last version, and a part of what was scanned is scanned from then on: what is redone is its own map
+pub logged-saved : (logical floor : ℕ) (saved : List ℕ) (es fs : List Entry) (map : List ℕ) (version : ℕ) → Logged logical floor saved es map version → Sublist fs es
+    → Logged logical version map fs map version
+logged-saved logical floor saved es fs map version h s = record {
+  good = pagesGood-sub logical s (h .good);
+  made = redone-none version map fs (omega (arith, top-sub s, h .last));
+  last = omega (arith, top-sub s, h .last);
+}
+
+-- ---- identifiers
+pub noMark-one : (i : ℕ) (es : List Entry) (e : Entry) → NoMark i es → (e .id ≡ i → e .cnt ≡ 0) → NoMark i (es ++ (e ∷ []))
+noMark-one i [] e n h = (h, tt)
+noMark-one i (y ∷ es) e n h = (n .0, noMark-one i es e (n .1) h)
+
+-- an identifier on no page, never used or with no page left in the scan, has no mark and no pages: it may be used again
+pub off-mark : (i : ℕ) (es : List Entry) → onPages i es ≡ false → NoMark i es
+unfolding onPages any
+off-mark i [] h = tt
+off-mark i (e ∷ es) h = (
+  (λ q. absurd (eqb-false (e .id) i (or-false-left (eqb (e .id) i) (any (λ (e : Entry). eqb (e .id) i) es) h) q)),
+  off-mark i es (or-false-right (eqb (e .id) i) (any (λ (e : Entry). eqb (e .id) i) es) h),
+)
+
+pub off-none : (i : ℕ) (es : List Entry) → onPages i es ≡ false → ofId i es ≡ []
+unfolding onPages any ofId those
+off-none i [] h = refl
+off-none i (e ∷ es) h =
+    rw (or-false-left (eqb (e .id) i) (any (λ (e : Entry). eqb (e .id) i) es) h) (off-none i es (or-false-right (eqb (e .id) i) (any (λ (e : Entry). eqb (e .id) i) es) h))
