@@ -5,3 +5,6 @@ pub mod Splice
 pub mod Pages
 pub mod Ranges
 pub mod Ops
+pub mod Image
+pub mod Whole
+pub mod Arrays
