@@ -7,6 +7,7 @@ use mathlib.Core.List.{List, [], _∷_, _++_}
 use lib.ListN.{length, take, drop, getD, replicate}
 use lib.Dec.{eqb, ltb}
 use lib.Bits.{bitOr, bitAnd, or-lt, and-le-l}
+use lib.Count.{ones, ones-ones}
 use borrow.Author.Tests.{ltb-true, lt-ltb, eqb-true, ne-eqb}
 use Rattle.model.specs.Lists.{all}
 use Rattle.model.specs.Bytes.{bytes, zeroBits, allFF, ands, ors, minus, zerosOf}
@@ -220,6 +221,13 @@ pub zeroBits-le : (a : List ℕ) → zeroBits a ≤ 8 * length a
 unfolding zeroBits
 zeroBits-le [] = omega arith
 zeroBits-le (x ∷ a) = omega (arith, zeroBits-le a)
+
+-- erased bytes have none
+pub zeroBits-full : (n m : ℕ) → zeroBits (take n (replicate m 255)) ≡ 0
+unfolding zeroBits
+zeroBits-full zero m = refl
+zeroBits-full (suc n) zero = refl
+zeroBits-full (suc n) (suc m) = omega (arith, ones-ones 8, zeroBits-full n m)
 
 pub zeros-overs : (p q : List ℕ) → Overs p q → zeroBits p ≤ zeroBits q
 unfolding zeroBits

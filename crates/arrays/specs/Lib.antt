@@ -2,3 +2,9 @@ pub mod Tests
 pub mod Bits
 pub mod Bytelist
 pub mod Splice
+pub mod Pages
+pub mod Ranges
+pub mod Ops
+pub mod Image
+pub mod Whole
+pub mod Arrays
