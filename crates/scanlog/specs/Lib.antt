@@ -7,3 +7,4 @@ pub mod Gone
 pub mod Logged
 pub mod Shape
 pub mod Take
+pub mod Open

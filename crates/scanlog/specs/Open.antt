@@ -1,0 +1,197 @@
+-- Open changes in the log: the programmed pages of an active place are the entries of its identifier, in write order and unmarked; each command
+-- keeps that, and a commit enters them in the map as redoing its transaction does.
+use mathlib.Core.Path.{_≡_, refl, sym, ap, _∙_, subst}
+use mathlib.Core.Logic.{_⊎_, inl, inr, _≢_}
+use mathlib.Core.Bool.{true, false, not, _&&_}
+use Prim.Native.Nat.{ℕ, zero, suc, _+_, _-_, _≤_, _<_}
+use native.Mathlib.Omega.{arith}
+use mathlib.Core.List.{List, [], _∷_, _++_}
+use lib.ListN.{length, getD, set, length-set, length-append}
+use lib.Seq.{getD-set-same, getD-set-other}
+use lib.Dec.{eqb}
+use borrow.Author.Tests.{eqb-true, eqb-false, ne-eqb, not-true}
+use Rattle.model.specs.Lists.{all, allTails, those}
+use Rattle.model.specs.Geometry.{enterPage}
+use Rattle.model.specs.Zones.{Entry, onPages, hasId}
+use Rattle.model.specs.Recovery.{ofId, enter}
+use Rattle.model.specs.Frame.{noPlace, placeOk, alone, placesOk}
+use Rattle.model.specs.Transactions.{heldPage, begun, written, entered}
+use Rattle.model.specs.declared.Geometry.{Geometry}
+use Rattle.model.specs.declared.Place.{Place}
+use Rattle.arrays.specs.Tests.{Is, eqb-cases, and-left, and-right, or-cases, all-at}
+use Rattle.scanlog.specs.Log.{NoMark, ofId-same, ofId-other, enter-append}
+use Rattle.scanlog.specs.Logged.{off-none}
+
+-- ---- the pages of a place as entries
+-- the entry of page k with a logical page of a change that is not marked
+unfoldable pub openEntry : ℕ → ℕ → ℕ → Entry
+openEntry id k lpn = record { ppn = k; lpn = lpn; cnt = 0; id = id; ver = 0; kind = 0; reserved = 0 }
+
+-- the entries of the first n pages of a place
+unfoldable pub laid : ℕ → List ℕ → List ℕ → ℕ → List Entry
+laid id lpns ppns zero = []
+laid id lpns ppns (suc n) = laid id lpns ppns n ++ (openEntry id (getD ppns n 0) (getD lpns n 0) ∷ [])
+
+-- the programmed pages of the place are the entries of its identifier, in write order
+abbrev pub Open : Place → List Entry → Type 0
+Open p es = ofId (p .id) es ≡ laid (p .id) (p .lpns) (p .ppns) (p .count - 1)
+
+pub laid-zero : (id : ℕ) (lpns ppns : List ℕ) → laid id lpns ppns 0 ≡ []
+unfolding laid
+laid-zero id lpns ppns = refl
+
+laid-suc : (id : ℕ) (lpns ppns : List ℕ) (n : ℕ) → laid id lpns ppns (suc n) ≡ laid id lpns ppns n ++ (openEntry id (getD ppns n 0) (getD lpns n 0) ∷ [])
+unfolding laid
+laid-suc id lpns ppns n = refl
+
+entered-suc : (m lpns ppns : List ℕ) (n : ℕ) → entered m lpns ppns (suc n) ≡ enterPage (entered m lpns ppns n) (getD lpns n 0) (getD ppns n 0)
+unfolding entered
+entered-suc m lpns ppns n = refl
+
+pub laid-length : (id : ℕ) (lpns ppns : List ℕ) (n : ℕ) → length (laid id lpns ppns n) ≡ n
+unfolding laid
+laid-length id lpns ppns zero = refl
+laid-length id lpns ppns (suc n) =
+    length-append (laid id lpns ppns n) (openEntry id (getD ppns n 0) (getD lpns n 0) ∷ []) ∙ omega (arith, laid-length id lpns ppns n)
+
+-- pages that are written later do not alter them
+laid-same : (id : ℕ) (lpns ppns lpns′ ppns′ : List ℕ) (n : ℕ) → ((i : ℕ) → i < n → getD lpns′ i 0 ≡ getD lpns i 0) → ((i : ℕ) → i < n → getD ppns′ i 0 ≡ getD ppns i 0)
+    → laid id lpns′ ppns′ n ≡ laid id lpns ppns n
+unfolding laid
+laid-same id lpns ppns lpns′ ppns′ zero h k = refl
+laid-same id lpns ppns lpns′ ppns′ (suc n) h k =
+    rw (laid-same id lpns ppns lpns′ ppns′ n (λ i l. h i (omega arith)) (λ i l. k i (omega arith)), h n (omega arith), k n (omega arith))
+
+-- entered in a map, they are what a commit enters
+pub laid-entered : (m : List ℕ) (id : ℕ) (lpns ppns : List ℕ) (n : ℕ) → enter m (laid id lpns ppns n) ≡ entered m lpns ppns n
+unfolding laid entered enter openEntry
+laid-entered m id lpns ppns zero = refl
+laid-entered m id lpns ppns (suc n) =
+    enter-append m (laid id lpns ppns n) (openEntry id (getD ppns n 0) (getD lpns n 0) ∷ [])
+    ∙ ap (λ (l : List ℕ). enterPage l (getD lpns n 0) (getD ppns n 0)) (laid-entered m id lpns ppns n)
+
+-- ---- no mark
+-- none of these is a mark
+abbrev Unmarked : List Entry → Type 0
+Unmarked [] = Unit {0}
+Unmarked (y ∷ ys) = (y .cnt ≡ 0) × Unmarked ys
+
+unmarked-append : (xs ys : List Entry) → Unmarked xs → Unmarked ys → Unmarked (xs ++ ys)
+unmarked-append [] ys h k = k
+unmarked-append (x ∷ xs) ys h k = (h .0, unmarked-append xs ys (h .1) k)
+
+laid-unmarked : (id : ℕ) (lpns ppns : List ℕ) (n : ℕ) → Unmarked (laid id lpns ppns n)
+unfolding laid openEntry
+laid-unmarked id lpns ppns zero = tt
+laid-unmarked id lpns ppns (suc n) = unmarked-append (laid id lpns ppns n) (openEntry id (getD ppns n 0) (getD lpns n 0) ∷ []) (laid-unmarked id lpns ppns n) (refl, tt)
+
+unmarked-id : (i : ℕ) (es : List Entry) → Unmarked (ofId i es) → NoMark i es
+unfolding ofId those
+unmarked-id i [] h = tt
+unmarked-id i (e ∷ es) h = go (eqb-cases (e .id) i) (unmarked-id i es)
+  where
+    go : Is (e .id) i → (Unmarked (ofId i es) → NoMark i es) → NoMark i (e ∷ es)
+    go (inl q) ih = let k : (e .cnt ≡ 0) × Unmarked (ofId i es) = rw (q .1) at h in ((λ r. k .0), ih (k .1))
+    go (inr q) ih = let k : Unmarked (ofId i es) = rw (q .1) at h in ((λ r. absurd (q .0 r)), ih k)
+
+module _ (p : Place) (es : List Entry) (o : Open p es) where
+  -- the identifier of an open change has no mark
+  pub open-noMark : NoMark (p .id) es
+  open-noMark = unmarked-id (p .id) es (subst Unmarked (sym o) (laid-unmarked (p .id) (p .lpns) (p .ppns) (p .count - 1)))
+
+  pub open-length : length (ofId (p .id) es) ≡ p .count - 1
+  open-length = ap length o ∙ laid-length (p .id) (p .lpns) (p .ppns) (p .count - 1)
+
+  -- an entry of another identifier
+  pub open-other : (e : Entry) → e .id ≢ p .id → Open p (es ++ (e ∷ []))
+  open-other e n = ofId-other (p .id) es e n ∙ o
+
+  -- the first write is held
+  pub open-first : (k lpn : ℕ) → p .count ≡ 0 → Open (written p k lpn) es
+  unfolding written
+  open-first k lpn z =
+      let a : p .count - 1 ≡ 0 = omega arith in
+      let b : p .count + 1 - 1 ≡ 0 = omega arith in
+      o ∙ rw (a, b) (laid-zero (p .id) (p .lpns) (p .ppns) ∙ sym (laid-zero (p .id) _ _))
+
+  -- the next one programs the page held before it
+  pub open-more : (k lpn : ℕ) → p .count ≢ 0 → p .count ≤ length (p .ppns) → Open (written p k lpn) (es ++ (openEntry (p .id) k (heldPage p) ∷ []))
+  unfolding written openEntry
+  open-more k lpn z l =
+      let n = p .count - 1 in
+      let c : p .count ≡ suc n = omega arith in
+      let b : p .count + 1 - 1 ≡ suc n = omega arith in
+      let e = openEntry (p .id) k (heldPage p) in
+      let s : laid (p .id) (set (p .lpns) (p .count) lpn) (set (p .ppns) n k) n ≡ laid (p .id) (p .lpns) (p .ppns) n
+      = laid-same (p .id) (p .lpns) (p .ppns) (set (p .lpns) (p .count) lpn) (set (p .ppns) n k) n
+      (λ i h. getD-set-other (p .lpns) (p .count) i lpn 0 (λ q. absurd (omega arith))) (λ i h. getD-set-other (p .ppns) n i k 0 (λ q. absurd (omega arith))) in
+      let t : laid (p .id) (set (p .lpns) (p .count) lpn) (set (p .ppns) n k) (suc n) ≡ laid (p .id) (p .lpns) (p .ppns) n ++ (e ∷ [])
+      = laid-suc (p .id) (set (p .lpns) (p .count) lpn) (set (p .ppns) n k) n
+      ∙ rw (s, getD-set-same (p .ppns) n k 0 (omega arith), getD-set-other (p .lpns) (p .count) n lpn 0 (λ q. absurd (omega arith))) in
+      ofId-same (p .id) es e refl ∙ ap (λ (l : List Entry). l ++ (e ∷ [])) o ∙ rw (ne-eqb (p .count) 0 z, b) (sym t)
+
+  -- the mark: what redoing the transaction enters is what the commit enters
+  pub open-mark : (m : List ℕ) (e : Entry) → p .count ≢ 0 → p .count ≤ length (p .ppns) → e .lpn ≡ heldPage p
+      → enter m (ofId (p .id) es ++ (e ∷ [])) ≡ entered m (p .lpns) (set (p .ppns) (p .count - 1) (e .ppn)) (p .count)
+  unfolding enter
+  open-mark m e z l q =
+      let n = p .count - 1 in
+      let c : p .count ≡ suc n = omega arith in
+      let qs = set (p .ppns) n (e .ppn) in
+      let s : laid (p .id) (p .lpns) (p .ppns) n ≡ laid (p .id) (p .lpns) qs n
+      = sym (laid-same (p .id) (p .lpns) (p .ppns) (p .lpns) qs n (λ i h. refl) (λ i h. getD-set-other (p .ppns) n i (e .ppn) 0 (λ r. absurd (omega arith)))) in
+      let a : enter m (ofId (p .id) es) ≡ entered m (p .lpns) qs n = ap (enter m) (o ∙ s) ∙ laid-entered m (p .id) (p .lpns) qs n in
+      let t : entered m (p .lpns) qs (suc n) ≡ enterPage (entered m (p .lpns) qs n) (e .lpn) (e .ppn)
+      = entered-suc m (p .lpns) qs n ∙ rw (getD-set-same (p .ppns) n (e .ppn) 0 (omega arith), q) in
+      enter-append m (ofId (p .id) es) (e ∷ []) ∙ ap (λ (l : List ℕ). enterPage l (e .lpn) (e .ppn)) a ∙ sym t ∙ ap (entered m (p .lpns) qs) (sym c)
+
+-- an identifier on no page: a change begins
+pub open-begun : (id : ℕ) (es : List Entry) → onPages id es ≡ false → Open (begun id) es
+unfolding begun
+open-begun id es h = off-none id es h ∙ sym (laid-zero id _ _)
+
+-- ---- all places
+-- each active place is open
+abbrev pub Opens : List Place → List Entry → Type 0
+Opens ps es = (i : ℕ) → i < length ps → getD ps i noPlace .id ≢ 0 → Open (getD ps i noPlace) es
+
+-- one place changes, and the entries of the other identifiers are as they were
+pub opens-set : (ps : List Place) (es fs : List Entry) (i : ℕ) (p : Place) → Opens ps es → (p .id ≢ 0 → Open p fs)
+    → ((j : ℕ) → j < length ps → j ≢ i → getD ps j noPlace .id ≢ 0 → ofId (getD ps j noPlace .id) fs ≡ ofId (getD ps j noPlace .id) es) → Opens (set ps i p) fs
+opens-set ps es fs i p o h k j l = go (eqb-cases j i)
+  where
+    lt : j < length ps
+    lt = rw (← length-set ps i p) l
+
+    go : Is j i → getD (set ps i p) j noPlace .id ≢ 0 → Open (getD (set ps i p) j noPlace) fs
+    go (inl q) =
+        let e : getD (set ps i p) j noPlace ≡ p = ap (λ (n : ℕ). getD (set ps i p) n noPlace) (q .0) ∙ getD-set-same ps i p noPlace (omega (arith, lt, q .0)) in
+        subst (λ (r : Place). r .id ≢ 0 → Open r fs) (sym e) h
+    go (inr q) =
+        let e : getD (set ps i p) j noPlace ≡ getD ps j noPlace = getD-set-other ps i j p noPlace (q .0) in
+        subst (λ (r : Place). r .id ≢ 0 → Open r fs) (sym e) (λ n. k j lt (q .0) n ∙ o j lt n)
+
+-- no place changes
+pub opens-same : (ps : List Place) (es fs : List Entry) → Opens ps es → ((j : ℕ) → j < length ps → getD ps j noPlace .id ≢ 0 → ofId (getD ps j noPlace .id) fs ≡ ofId (getD ps j noPlace .id) es) → Opens ps fs
+opens-same ps es fs o k j l n = k j l n ∙ o j l n
+
+-- a place that is not free shares its identifier with none after it
+later-apart : (p : Place) (ps : List Place) → alone p ps ≡ true → (m : ℕ) → m < length ps → p .id ≢ 0 → getD ps m noPlace .id ≢ p .id
+unfolding alone
+later-apart p ps h m b w = pick (or-cases (eqb (p .id) 0) (all (λ (q : Place). not (hasId (p .id) q)) ps) h)
+  where
+    pick : (eqb (p .id) 0 ≡ true) ⊎ (all (λ (q : Place). not (hasId (p .id) q)) ps ≡ true) → getD ps m noPlace .id ≢ p .id
+    pick (inl e) = absurd (w (eqb-true (p .id) 0 e))
+    pick (inr e) = eqb-false (getD ps m noPlace .id) (p .id) (not-true _ (all-at (λ (q : Place). not (hasId (p .id) q)) ps m noPlace e b))
+
+-- two places that are not free have different identifiers
+pub places-apart : (g : Geometry) (ps : List Place) → placesOk g ps ≡ true → (i j : ℕ) → i < length ps → j < length ps → i ≢ j → getD ps i noPlace .id ≢ 0
+    → getD ps j noPlace .id ≢ getD ps i noPlace .id
+unfolding placesOk allTails
+places-apart g [] h i j l k n z = absurd (omega arith)
+places-apart g (p ∷ ps) h zero zero l k n z = absurd (n refl)
+places-apart g (p ∷ ps) h zero (suc j) l k n z = later-apart p ps (and-right (placeOk g p) (alone p ps) (and-left (placeOk g p && alone p ps) _ h)) j (omega arith) z
+places-apart g (p ∷ ps) h (suc i) zero l k n z =
+    λ q. later-apart p ps (and-right (placeOk g p) (alone p ps) (and-left (placeOk g p && alone p ps) _ h)) i (omega arith) (λ w. z (sym q ∙ w)) (sym q)
+places-apart g (p ∷ ps) h (suc i) (suc j) l k n z =
+    places-apart g ps (and-right (placeOk g p && alone p ps) _ h) i j (omega arith) (omega arith) (λ q. n (ap suc q)) z
