@@ -9,8 +9,7 @@ use lib.ListN.{length, set, getD, replicate, length-set, length-replicate}
 use lib.Seq.{getD-set-same, getD-set-other}
 use lib.Dec.{eqb, leb}
 use borrow.Author.Tests.{eq-eqb, ne-eqb, leb-false, lt-leb}
-use Rattle.model.specs.Bytes.{allFF}
-use Rattle.model.specs.Page.{pageAt, dataAt, blankAt, wholeAt, classOf, isWhole}
+use Rattle.model.specs.Page.{pageAt, dataAt, blankAt, wholeAt}
 use Rattle.model.specs.Geometry.{unmapped, blankMap}
 use Rattle.model.specs.World.{World}
 use Rattle.model.specs.Frame.{frameOk, gate, isIdle}
@@ -20,6 +19,7 @@ use Rattle.model.specs.Demand3.{ReadsAs}
 use Rattle.model.specs.declared.Geometry.{Geometry}
 use Rattle.arrays.specs.Tests.{Is, eqb-cases, clash}
 use Rattle.arrays.specs.Pages.{whole-same, data-same}
+use Rattle.arrays.specs.Whole.{whole-not-blank}
 use Rattle.scanlog.specs.Occ.{occ}
 use Rattle.sequence.specs.Maps.{Mapped, entry-in, in-entry}
 
@@ -35,15 +35,6 @@ pub record Contents (xs map : List ℕ) (ps : List Content) : Type 0 where
   pub each : (lpn : ℕ) → lpn < length map → Matches xs (getD map lpn unmapped) (getD ps lpn never)
 
 -- ---- laws
--- a page that is not erased is not blank
-pub whole-used : (xs : List ℕ) (k : ℕ) → wholeAt xs k ≡ true → blankAt xs k ≡ false
-unfolding wholeAt classOf blankAt
-whole-used xs k h = go (allFF (pageAt xs k)) refl h
-  where
-    go : (t : Bool) → allFF (pageAt xs k) ≡ t → isWhole (classOf (pageAt xs k)) ≡ true → t ≡ false
-    go true e h = let z : false ≡ true = rw e at h in clash z refl
-    go false e h = refl
-
 -- a mapped page is whole
 pub mapped-whole : (xs map : List ℕ) (ps : List Content) → Contents xs map ps → (k : ℕ) → k ≢ unmapped → 0 < occ k map → wholeAt xs k ≡ true
 mapped-whole xs map ps c k n h =
@@ -60,7 +51,7 @@ blank-unmapped xs map ps c k n b = go (eqb-cases (occ k map) 0)
   where
     go : Is (occ k map) 0 → occ k map ≡ 0
     go (inl q) = q .0
-    go (inr q) = clash b (whole-used xs k (mapped-whole xs map ps c k n (omega (arith, q .0))))
+    go (inr q) = clash b (whole-not-blank xs k (mapped-whole xs map ps c k n (omega (arith, q .0))))
 
 -- the contents are kept where the mapped pages are
 pub contents-keep : (xs ys map : List ℕ) (ps : List Content) → ((k : ℕ) → k ≢ unmapped → 0 < occ k map → wholeAt xs k ≡ true → pageAt ys k ≡ pageAt xs k) → Contents xs map ps → Contents ys map ps
