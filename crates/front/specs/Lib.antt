@@ -1,0 +1,17 @@
+pub mod Base
+pub mod Complete
+pub mod Newest
+pub mod Local
+pub mod Replaced
+pub mod MapBack
+pub mod ZoneBack
+pub mod Written
+pub mod Blocks
+pub mod Front
+pub mod Way
+pub mod Recovered
+pub mod Kept
+pub mod Effect
+pub mod Strides
+pub mod Checkpointing
+pub mod Moved
