@@ -8,3 +8,5 @@ pub mod Ops
 pub mod Image
 pub mod Whole
 pub mod Arrays
+pub mod Used
+pub mod Scan
