@@ -10,3 +10,4 @@ pub mod Whole
 pub mod Arrays
 pub mod Used
 pub mod Scan
+pub mod Examples

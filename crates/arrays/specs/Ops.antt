@@ -1,14 +1,13 @@
 -- What an operation, done or cut, leaves: the length, the bytes, and each page.
 use mathlib.Core.Path.{_≡_, refl, sym, ap, _∙_}
-use mathlib.Core.Bool.{Bool, true, false}
-use mathlib.Core.Logic.{_⊎_, inl, inr}
-use Prim.Native.Nat.{ℕ, zero, suc, _+_, _-_, _*_, _≤_, _<_}
+use mathlib.Core.Bool.{true}
+use Prim.Native.Nat.{ℕ, _+_, _*_, _<_}
 use native.Mathlib.Omega.{arith}
-use mathlib.Core.List.{List, []}
+use mathlib.Core.List.{List}
 use lib.ListN.{length, take, drop, replicate, length-replicate}
 use Rattle.model.specs.Lists.{part}
-use Rattle.model.specs.Bytes.{bytes, ands, ors, minus, zerosOf}
-use Rattle.model.specs.Page.{pageAt, blockAt, putPage, putBlock, blankAt}
+use Rattle.model.specs.Bytes.{bytes, ands, ors, minus}
+use Rattle.model.specs.Page.{pageAt, blockAt, putPage, blankAt}
 use Rattle.model.specs.World.{Op, none, program, erase, applyOp, dueBits, turnedBits, turn, cutOp}
 use Rattle.arrays.specs.Bytelist.{Bytes, bytes-true, true-bytes, bytes-replicate, bytes-ands, bytes-ors, bytes-minus, bytes-zeros, length-ands, length-ors, length-minus, take-ors, drop-ors, ands-erased, ors-erased, bytes-drop}
 use Rattle.arrays.specs.Pages.{PageFits, BlockFits, Outside, Other, OtherBlock, outside-block, length-page, bytes-page, length-block, bytes-block, page-of-block, page-blank, length-put, bytes-put, put-same, put-other, length-put-block, bytes-put-block, block-page, block-other, page-replicate}

@@ -1,18 +1,16 @@
 -- The whole pages of blocks as entries: what a page gives, what programs, erases and cuts do to a block's entries, and the page that is taken next.
 use mathlib.Core.Path.{_≡_, refl, sym, ap, ap₂, _∙_, subst}
-use mathlib.Core.Bool.{Bool, true, false, cond, _&&_}
+use mathlib.Core.Bool.{Bool, true, false, _&&_}
 use mathlib.Core.Logic.{_⊎_, inl, inr}
 use Prim.Native.Nat.{ℕ, zero, suc, _+_, _-_, _*_, _≤_, _<_}
 use native.Mathlib.Omega.{arith}
 use mathlib.Core.List.{List, [], _∷_, _++_, append-assoc, append-nil}
-use lib.ListN.{length}
 use lib.Dec.{ltb}
 use borrow.Author.Tests.{ltb-true, ltb-false}
-use Rattle.model.specs.Lists.{all, keep}
-use Rattle.model.specs.Page.{classOf, spareOf, pageAt, pageBytes, blankAt, wholeAt, usedFrom}
-use Rattle.model.specs.World.{Op, none, program, erase, applyOp, cutOp, programs, everyTurned, dueBits, turnedBits}
+use Rattle.model.specs.Lists.{all}
+use Rattle.model.specs.Page.{spareOf, pageAt, blankAt, wholeAt, usedFrom}
+use Rattle.model.specs.World.{Op, program, erase, applyOp, cutOp, programs, everyTurned, dueBits, turnedBits}
 use Rattle.model.specs.Zones.{usedIn, cleanIn, nextIn, Entry, entryOf, entryAt, wholeFrom, scanIn}
-use Rattle.model.specs.declared.Class.the-variants.{Whole}
 use Rattle.arrays.specs.Tests.{all-head, all-tail, all-cons, all-nil}
 use Rattle.arrays.specs.Bytelist.{Bytes}
 use Rattle.arrays.specs.Pages.{BlockFits, Other, SamePages, other-block, blank-same, whole-same}

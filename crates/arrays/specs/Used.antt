@@ -1,14 +1,12 @@
 -- The used pages of a block, up to and with the last that is not erased; those behind them are its clean pages.
 use mathlib.Core.Path.{_≡_, refl, sym, ap, _∙_}
 use mathlib.Core.Bool.{Bool, true, false, cond}
-use Prim.Native.Nat.{ℕ, zero, suc, _+_, _-_, _*_, _≤_, _<_}
+use Prim.Native.Nat.{ℕ, zero, suc, _+_, _*_, _≤_, _<_}
 use native.Mathlib.Omega.{arith}
 use native.Mathlib.Decide.{ℕ-discrete}
-use mathlib.Core.List.{List, []}
-use lib.ListN.{length}
-use Rattle.model.specs.Bytes.{allFF}
-use Rattle.model.specs.Page.{pageAt, blankAt, usedFrom}
-use Rattle.model.specs.World.{Op, program, erase, applyOp, cutOp}
+use mathlib.Core.List.{List}
+use Rattle.model.specs.Page.{blankAt, usedFrom}
+use Rattle.model.specs.World.{erase, applyOp, cutOp}
 use Rattle.model.specs.Zones.{usedIn}
 use Rattle.arrays.specs.Bytelist.{Bytes}
 use Rattle.arrays.specs.Pages.{BlockFits, Other, SamePages, blank-same}
