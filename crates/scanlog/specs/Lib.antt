@@ -8,3 +8,4 @@ pub mod Logged
 pub mod Shape
 pub mod Take
 pub mod Open
+pub mod Pick

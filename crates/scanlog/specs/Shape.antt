@@ -7,8 +7,8 @@ use native.Mathlib.Omega.{arith}
 use mathlib.Core.List.{List, [], _∷_, _++_}
 use lib.ListN.{length, take, replicate}
 use lib.Seq.{take-append-seam}
-use lib.Dec.{ltb, leb}
-use borrow.Author.Tests.{le-leb, leb-true, ltb-true, lt-ltb, not-true}
+use lib.Dec.{leb}
+use borrow.Author.Tests.{le-leb, leb-true, not-true}
 use Rattle.model.specs.Lists.{allHeads, elem, rising, padTo}
 use Rattle.model.specs.Geometry.{dataBlock}
 use Rattle.model.specs.Zones.{availableOf, unavailableOf, freeOf, zonesOf, newBlock, zoneListsOk, zonesOk, checkpointed}
@@ -16,19 +16,6 @@ use Rattle.model.specs.declared.Geometry.{Geometry}
 use Rattle.model.specs.declared.Zones.{Zones}
 use Rattle.arrays.specs.Tests.{clash, Is, eqb-cases, and-left, and-right}
 use Rattle.scanlog.specs.Occ.{occ, occ-nil, occ-cons, occ-yes, occ-no, occ-append, Distinct, elem-occ, occ-elem}
-
--- ---- data blocks
-pub block-low : (g : Geometry) (b : ℕ) → dataBlock g b ≡ true → 2 ≤ b
-unfolding dataBlock
-block-low g b d = leb-true 2 b (and-left (leb 2 b) (ltb b (g .blocks)) d)
-
-pub block-high : (g : Geometry) (b : ℕ) → dataBlock g b ≡ true → b < g .blocks
-unfolding dataBlock
-block-high g b d = ltb-true b (g .blocks) (and-right (leb 2 b) (ltb b (g .blocks)) d)
-
-pub block-in : (g : Geometry) (b : ℕ) → 2 ≤ b → b < g .blocks → dataBlock g b ≡ true
-unfolding dataBlock
-block-in g b l h = rw (le-leb 2 b l, lt-ltb b (g .blocks) h)
 
 -- a front block is none
 pub front-block : (g : Geometry) (f : ℕ) → f < 2 → dataBlock g f ≡ false

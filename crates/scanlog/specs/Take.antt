@@ -13,7 +13,7 @@ use Rattle.model.specs.Lists.{without, find}
 use Rattle.model.specs.Geometry.{dataBlock}
 use Rattle.model.specs.Zones.{Taken, freeIndex, pastBlock, takeOne, refill}
 use Rattle.model.specs.declared.Geometry.{Geometry}
-use Rattle.scanlog.specs.Shape.{block-low, block-high, block-in}
+use Rattle.arrays.specs.Ranges.{block-least, block-most, block-is}
 use Rattle.scanlog.specs.Sublist.{Sublist, skip, sub-refl, sub-append, sub-trans}
 use Rattle.scanlog.specs.Occ.{occ, occ-nil, occ-cons, occ-yes, occ-append}
 
@@ -77,11 +77,11 @@ took-trans g t r q x y = record {
 
 past-block : (g : Geometry) (b : ℕ) → dataBlock g b ≡ true → dataBlock g (pastBlock g b) ≡ true
 unfolding pastBlock
-past-block g b h = go (ltb (b + 1) (g .blocks)) refl (block-low g b h) (block-high g b h)
+past-block g b h = go (ltb (b + 1) (g .blocks)) refl (block-least g b h) (block-most g b h)
   where
     go : (t : Bool) → ltb (b + 1) (g .blocks) ≡ t → 2 ≤ b → b < g .blocks → dataBlock g (cond t (b + 1) 2) ≡ true
-    go true e l k = block-in g (b + 1) (omega arith) (ltb-true (b + 1) (g .blocks) e)
-    go false e l k = block-in g 2 (omega arith) (omega arith)
+    go true e l k = block-is g (b + 1) (omega arith) (ltb-true (b + 1) (g .blocks) e)
+    go false e l k = block-is g 2 (omega arith) (omega arith)
 
 pub took-one : (g : Geometry) (t : Taken) → length (t .available) < 3 → 0 < length (t .free) → Took g t (takeOne g t)
 unfolding takeOne
