@@ -4,3 +4,7 @@ pub mod Contents
 pub mod Places
 pub mod OpenBook
 pub mod Writes
+pub mod Sound
+pub mod Live
+pub mod View
+pub mod Begin

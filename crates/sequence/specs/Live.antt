@@ -1,0 +1,146 @@
+-- The live world: what holds of array, map, hold and state, with the book, at every point of a sequence where no cut lost the state.
+-- Nothing refuses it with 1, each logical page reads as the book has it, and a recovery leads to such a world.
+use mathlib.Core.Path.{_≡_, refl, sym, ap, _∙_, subst}
+use mathlib.Core.Logic.{_⊎_, inl, inr, _≢_}
+use mathlib.Core.Bool.{Bool, true, false, not, cond, _&&_}
+use Prim.Native.Nat.{ℕ, zero, suc, _+_, _-_, _*_, _/_, _≤_, _<_, max}
+use native.Mathlib.Omega.{arith}
+use mathlib.Core.List.{List, [], _∷_, _++_}
+use lib.ListN.{length, getD, replicate, length-replicate}
+use lib.Dec.{eqb, leb, ltb}
+use Rattle.model.specs.Lists.{any}
+use borrow.Author.Tests.{lt-ltb}
+use Rattle.model.specs.Geometry.{geometryOk, lengthsOk, mapOk}
+use Rattle.model.specs.Zones.{Entry, availableOf, unavailableOf, freeOf, zonesOk, scanIn, scanOf, hasId}
+use Rattle.model.specs.World.{World, Plan}
+use Rattle.model.specs.Frame.{freePlace, noPlace, placeOk, lentOk, placesOk, workOk, frameOk}
+use Rattle.model.specs.Commands.{recover, exec, Outcome}
+use Rattle.model.specs.Book.{Book, writesOf}
+use Rattle.model.specs.Demand3.{Reads}
+use Rattle.model.specs.declared.Geometry.{Geometry}
+use Rattle.model.specs.declared.Place.{Place}
+use Rattle.model.specs.declared.State.{State}
+use Rattle.model.specs.declared.Zones.{Zones}
+use Rattle.arrays.specs.Tests.{and-both}
+use Rattle.arrays.specs.Ranges.{InGeometry, geometry-in, InLengths, in-lengths}
+use Rattle.front.specs.ZoneBack.{plain, plain-available, plain-unavailable, plain-free}
+use Rattle.front.specs.Written.{Saved}
+use Rattle.front.specs.Kept.{Kept, kept-work, kept-block, recovered-kept}
+use Rattle.front.specs.Front.{Front}
+use Rattle.front.specs.Recovered.{stateOf, front-state}
+use Rattle.scanlog.specs.Occ.{occ}
+use Rattle.scanlog.specs.Logged.{Logged}
+use Rattle.scanlog.specs.Open.{Opens}
+use Rattle.scanlog.specs.Tidy.{Tidy}
+use Rattle.sequence.specs.Maps.{MapGood, good-ok}
+use Rattle.sequence.specs.Contents.{Contents, reads-content}
+use Rattle.sequence.specs.Places.{PlacesGood, placeAt, places-ok, free-ok}
+use Rattle.sequence.specs.OpenBook.{isOpen}
+use Rattle.sequence.specs.Writes.{Writes}
+use Rattle.sequence.specs.Sound.{Sound, handed, recovered}
+
+-- ---- definitions
+-- the live zones against those of the newest checkpoint: the same are scanned, and no fewer are free
+pub record Freer (saved now : Zones) : Type 0 where
+  pub available : availableOf now ≡ availableOf saved
+  pub unavailable : unavailableOf now ≡ unavailableOf saved
+  pub free : (b : ℕ) → occ b (freeOf saved) ≤ occ b (freeOf now)
+
+-- the open changes of the book against the places, the array, the map and the hold
+pub record Changing (xs map hold : List ℕ) (ps : List Place) (b : Book) : Type 0 where
+  pub eight : length ps ≡ 8
+  pub writes : (i : ℕ) → i < 8 → placeAt ps i .id ≢ 0 → Writes xs map hold i (placeAt ps i) (writesOf (placeAt ps i .id) (b .changes))
+  pub opened : (i : ℕ) → i < 8 → placeAt ps i .id ≢ 0 → isOpen (placeAt ps i .id) (b .changes) ≡ true
+  pub closed : (id : ℕ) → id ≢ 0 → ((i : ℕ) → i < 8 → placeAt ps i .id ≢ id) → isOpen id (b .changes) ≡ false
+
+-- what is scanned
+abbrev pub scanned : World → List Entry
+scanned w = scanOf (w .array) (w .state .geometry .pages) (w .state .zones)
+
+pub record Live (w : World) (b : Book) : Type 0 where
+  pub saved : Saved
+  pub sound : Sound (w .state .geometry) (w .array) saved (w .map) (w .state .version) (b .pages)
+  pub kept : Kept w saved
+  pub freer : Freer (saved .zones) (w .state .zones)
+  pub tidy : Tidy (w .state .geometry) (w .array) (w .state .zones)
+  pub number : w .state .checkpoint ≤ 4294967294
+  pub hold : length (w .hold) ≡ 4096
+  pub places : PlacesGood (w .state .geometry) (w .state .places)
+  pub opens : Opens (w .state .places) (scanned w)
+  pub changing : Changing (w .array) (w .map) (w .hold) (w .state .places) b
+
+-- ---- laws
+-- the scan of the live zones is that of the checkpoint's
+pub freer-scan : (xs : List ℕ) (p : ℕ) (z now : Zones) → Freer z now → scanOf xs p now ≡ scanOf xs p z
+unfolding scanOf
+freer-scan xs p z now f = rw (f .available, f .unavailable)
+
+module _ (w : World) (b : Book) (h : Live w b) where
+  pub live-range : InGeometry (w .state .geometry)
+  live-range = geometry-in (w .state .geometry) (h .sound .geometry)
+
+  pub live-logged : Logged (w .state .geometry .logical) (h .saved .version) (h .saved .map) (scanned w) (w .map) (w .state .version)
+  live-logged = rw (freer-scan (w .array) (w .state .geometry .pages) (h .saved .zones) (w .state .zones) (h .freer)) (h .sound .logged)
+
+  pub live-lent : lentOk (w .state .geometry) w ≡ true
+  unfolding lentOk
+  live-lent =
+      let g = w .state .geometry in
+      and-both (geometryOk g) (lengthsOk g (w .array) (w .map) (w .hold)) (h .sound .geometry)
+      (in-lengths g (w .array) (w .map) (w .hold) (record { array = h .sound .long; map = h .sound .wide; hold = h .hold }))
+
+  -- nothing refuses it with 1
+  pub live-frame : frameOk w ≡ true
+  unfolding frameOk
+  live-frame =
+      let s = w .state in
+      let g = s .geometry in
+      and-both _ _ live-lent
+      (and-both _ _ (good-ok g (w .map) (h .sound .good))
+      (and-both _ _ (h .tidy .ok)
+      (and-both _ _ (places-ok g (s .places) (h .places))
+      (and-both _ _ (lt-ltb (s .front) 2 (kept-block w (h .saved) (h .kept))) (kept-work w (h .saved) (h .kept))))))
+
+  -- each logical page reads as the book has it
+  pub live-reads : Reads (w .state .geometry) b w
+  live-reads lpn l = reads-content w (b .pages) live-frame (h .sound .contents) lpn (omega (arith, h .sound .wide)) l
+
+-- ---- a recovered world
+-- eight free places
+free-at : (n i : ℕ) → getD (replicate n freePlace) i noPlace .id ≡ 0
+free-at zero i = refl
+free-at (suc n) zero = refl
+free-at (suc n) (suc i) = free-at n i
+
+places-free : (g : Geometry) → PlacesGood g (replicate 8 freePlace)
+places-free g = record { ok = each 8; apart = λ i j l k n z. absurd (z (free-at 8 i)) }
+  where
+    each : (n i : ℕ) → i < length (replicate n freePlace) → placeOk g (getD (replicate n freePlace) i noPlace) ≡ true
+    each zero i l = absurd (omega arith)
+    each (suc n) zero l = free-ok g
+    each (suc n) (suc i) l = each n i (omega arith)
+
+-- with its open changes closed
+abbrev pub closedBook : Book → Book
+closedBook b = record { pages = b .pages; changes = [] }
+
+pub sound-live : (g : Geometry) (xs : List ℕ) (c : Saved) (map : List ℕ) (version : ℕ) (b : Book) (hold : List ℕ) → c .number ≤ 4294967294
+    → (h : Sound g xs c map version (b .pages)) → length hold ≡ 4096 → Tidy g xs (plain (c .zones)) → Live (handed xs map hold (recovered g xs c map version (b .pages) h)) (closedBook b)
+unfolding stateOf isOpen
+sound-live g xs c map version b hold n h e t = record {
+    saved = c;
+    sound = subst (λ (v : ℕ). Sound g xs c map v (b .pages)) (sym (h .logged .last)) h;
+    kept = subst (λ (s : State). Kept (handed xs map hold s) c) (front-state g xs c (h .front)) (recovered-kept g xs map hold c (h .front));
+    freer = record { available = plain-available (c .zones); unavailable = plain-unavailable (c .zones); free = λ k. omega (arith, ap (occ k) (plain-free (c .zones))) };
+    tidy = t;
+    number = n;
+    hold = e;
+    places = places-free g;
+    opens = λ i l z. absurd (z (free-at 8 i));
+    changing = record {
+      eight = length-replicate {A = Place} 8 freePlace;
+      writes = λ i l z. absurd (z (free-at 8 i));
+      opened = λ i l z. absurd (z (free-at 8 i));
+      closed = λ id n k. unfold any in refl;
+    };
+  }

@@ -1,0 +1,66 @@
+-- A plan by its cases: a refusal with its number, or what the command does; and what a refused call leaves of a live world.
+use mathlib.Core.Path.{_≡_, refl, sym, ap, _∙_, subst}
+use mathlib.Core.Bool.{Bool, true, false, not, cond, _&&_, _||_}
+use Prim.Native.Nat.{ℕ}
+use mathlib.Core.List.{List}
+use lib.Dec.{eqb}
+use Rattle.model.specs.Answers.{refused}
+use Rattle.model.specs.World.{World, Plan, refuse}
+use Rattle.model.specs.Frame.{frameOk, isIdle, gate}
+use Rattle.model.specs.Transactions.{unless}
+use Rattle.model.specs.Commands.{Call, plan, carried, exec, Outcome}
+use Rattle.model.specs.Book.{Book, Event, called, entering, changing, tell}
+use Rattle.model.specs.declared.Work.{Work}
+use Rattle.model.specs.declared.Work.the-variants.{Idle, Format, Checkpoint, Reclaim}
+use Rattle.arrays.specs.Tests.{clash, decide}
+use Rattle.sequence.specs.Refused.{refused-same}
+use Rattle.sequence.specs.Live.{Live}
+
+-- P says what the command does where it is not refused
+pub data View (w : World) (P : Plan → Type 0) : Plan → Type 0 where
+  no : (n : ℕ) → refused n ≡ true → View w P (refuse w n)
+  yes : (p : Plan) → P p → View w P p
+
+module _ (w : World) (P : Plan → Type 0) where
+  -- a test that refuses with n
+  pub view-test : (t : Bool) (n : ℕ) (p : Plan) → refused n ≡ true → (t ≡ false → View w P p) → View w P (cond t (refuse w n) p)
+  view-test true n p r v = no n r
+  view-test false n p r v = v refl
+
+  -- refusals 1 and 17
+  pub view-gate : (own : Bool) (p : Plan) → (frameOk w ≡ true → (isIdle (w .state .work) || own) ≡ true → View w P p) → View w P (unless (gate own w) w p)
+  unfolding gate refused
+  view-gate own p v = go (frameOk w) (isIdle (w .state .work) || own) v
+    where
+      go : (f i : Bool) → (f ≡ true → i ≡ true → View w P p) → View w P (cond (eqb (cond f (cond i 0 17) 1) 0) p (refuse w (cond f (cond i 0 17) 1)))
+      go true true v = v refl refl
+      go true false v = no 17 refl
+      go false i v = no 1 refl
+
+  -- one or the other
+  pub view-cond : (t : Bool) (p q : Plan) → (t ≡ true → View w P p) → (t ≡ false → View w P q) → View w P (cond t p q)
+  view-cond true p q u v = u refl
+  view-cond false p q u v = v refl
+
+-- idle, where only that lets a command pass
+pub idle-only : (t : Bool) → (t || false) ≡ true → t ≡ true
+idle-only true h = refl
+idle-only false h = h
+
+-- ---- what a plan leads to
+-- the world after a plan
+abbrev pub after : Plan → World → World
+after p w = carried p w .world
+
+-- the book after a call that answered so
+pub told-refused : (b : Book) (c : Call) (n : ℕ) → refused n ≡ true → tell b (called c n) ≡ b
+unfolding tell refused
+told-refused b c n h = go (eqb n 0) h (record { pages = entering c b; changes = changing c (b .changes) })
+  where
+    go : (t : Bool) → (not t && not (eqb n 255)) ≡ true → (x : Book) → cond t x b ≡ b
+    go true h x = clash h refl
+    go false h x = refl
+
+-- a refused call leaves a live world and its book
+pub refused-live : (w : World) (b : Book) (c : Call) → refused (exec c w .answer) ≡ true → Live w b → Live (exec c w .world) (tell b (called c (exec c w .answer)))
+refused-live w b c r h = rw (told-refused b c (exec c w .answer) r) (rw (refused-same w c r) h)
