@@ -9,3 +9,5 @@ pub mod Shape
 pub mod Take
 pub mod Open
 pub mod Pick
+pub mod Order
+pub mod Slide
