@@ -11,3 +11,4 @@ pub mod Open
 pub mod Pick
 pub mod Order
 pub mod Slide
+pub mod Tidy
