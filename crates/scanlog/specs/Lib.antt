@@ -12,3 +12,5 @@ pub mod Pick
 pub mod Order
 pub mod Slide
 pub mod Tidy
+pub mod Free
+pub mod Start
