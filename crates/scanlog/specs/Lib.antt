@@ -9,3 +9,8 @@ pub mod Shape
 pub mod Take
 pub mod Open
 pub mod Pick
+pub mod Order
+pub mod Slide
+pub mod Tidy
+pub mod Free
+pub mod Start

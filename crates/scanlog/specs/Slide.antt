@@ -1,0 +1,251 @@
+-- What a checkpoint moves: every block with a page of an active transaction stays listed, what stays keeps its order, and nothing new is scanned;
+-- the zones stay in shape.
+use mathlib.Core.Path.{_≡_, refl, sym, ap, _∙_}
+use mathlib.Core.Logic.{inl, inr, _≢_}
+use mathlib.Core.Bool.{Bool, true, false, not, _||_}
+use Prim.Native.Nat.{ℕ, _+_, _*_, _≤_, _<_}
+use native.Mathlib.Omega.{arith}
+use mathlib.Core.List.{List, [], _∷_, _++_, append-nil, append-assoc}
+use lib.ListN.{length, length-append, length-take}
+use lib.Dec.{eqb}
+use borrow.Author.Tests.{eqb-false, ne-eqb, not-true}
+use Rattle.model.specs.Lists.{any, keep, those}
+use Rattle.model.specs.Recovery.{ofId}
+use Rattle.model.specs.Zones.{Entry, wholeFrom, usedIn, isFull, scanIn, scanOf, availableOf, unavailableOf, freeOf, zonesOf, zonesOk, onPages, active, wanted, staying, leaving, holdsWanted, judged, Taken, refill, zonesTaken, slide}
+use Rattle.model.specs.declared.Geometry.{Geometry}
+use Rattle.model.specs.declared.Zones.{Zones}
+use Rattle.model.specs.declared.Place.{Place}
+use Rattle.arrays.specs.Tests.{clash, Is, eqb-cases, and-left, or-false-left, or-false-right}
+use Rattle.arrays.specs.Used.{used-in-le}
+use Rattle.arrays.specs.Scan.{Blank, scan-append, scan-blank}
+use Rattle.scanlog.specs.Sublist.{Sublist, nil, skip, both, sub-refl, sub-nil, sub-append, sub-those, sub-length}
+use Rattle.scanlog.specs.Occ.{occ, occ-append, occ-sub, split-occ, split-length}
+use Rattle.scanlog.specs.Rising.{rising-sub}
+use Rattle.scanlog.specs.Log.{ofId-append}
+use Rattle.scanlog.specs.Shape.{Shape, shape, shape-ok, listed-block, zonesOf-available, zonesOf-unavailable, zonesOf-free, zonesOf-ok}
+use Rattle.scanlog.specs.Take.{Took, took-refill}
+use Rattle.scanlog.specs.Order.{Order, each-sub, each-is, is-each, order-sub, order-append}
+
+pub scan-sub : (xs : List ℕ) (p : ℕ) {cs bs : List ℕ} → Sublist cs bs → Sublist (scanIn xs p cs) (scanIn xs p bs)
+unfolding scanIn
+scan-sub xs p nil = nil
+scan-sub xs p (skip b s) = sub-append (sub-nil (wholeFrom xs (b * p) p)) (scan-sub xs p s)
+scan-sub xs p (both b s) = sub-append (sub-refl (wholeFrom xs (b * p) p)) (scan-sub xs p s)
+
+-- ---- full blocks leave
+-- erased blocks all stay
+blank-stay : (xs : List ℕ) (p : ℕ) (bs : List ℕ) → 0 < p → Blank xs p bs → (leaving xs p bs ≡ []) × (staying xs p bs ≡ bs)
+unfolding leaving staying those isFull
+blank-stay xs p [] l h = (refl, refl)
+blank-stay xs p (b ∷ bs) l h =
+    let z : eqb (usedIn xs p b) p ≡ false = ne-eqb (usedIn xs p b) p (λ q. absurd (omega (arith, h .0))) in
+    (rw z (blank-stay xs p bs l (h .1) .0), rw z (ap (λ (t : List ℕ). b ∷ t) (blank-stay xs p bs l (h .1) .1)))
+
+-- in order, the full blocks come first
+pub order-leave : (xs : List ℕ) (p : ℕ) (bs : List ℕ) → 0 < p → Order xs p bs → leaving xs p bs ++ staying xs p bs ≡ bs
+unfolding leaving staying those isFull
+order-leave xs p [] l r = refl
+order-leave xs p (b ∷ bs) l r = go (eqb-cases (usedIn xs p b) p) (order-leave xs p bs l (r .1))
+  where
+    go : Is (usedIn xs p b) p → leaving xs p bs ++ staying xs p bs ≡ bs
+        → (keep (eqb (usedIn xs p b) p) (b ∷ []) ++ leaving xs p bs) ++ (keep (not (eqb (usedIn xs p b) p)) (b ∷ []) ++ staying xs p bs) ≡ b ∷ bs
+    go (inl q) ih = rw (q .1) (ap (λ (t : List ℕ). b ∷ t) ih)
+    go (inr q) ih =
+        let k = blank-stay xs p bs l (r .0 (omega (arith, used-in-le xs p b, q .0))) in
+        rw (q .1, k .0, k .1)
+
+-- ---- what is wanted is kept
+-- the identifier is active, or has a page among those near
+abbrev pub Wanted : List Place → List Entry → ℕ → Type 0
+Wanted ps near id = (id ≢ 0) × ((active id ps || onPages id near) ≡ true)
+
+module _ (ps : List Place) (near : List Entry) (id : ℕ) (want : Wanted ps near id) where
+  unwanted-none : (es : List Entry) → any (wanted ps near) es ≡ false → ofId id es ≡ []
+  unfolding any ofId those wanted
+  unwanted-none [] h = refl
+  unwanted-none (e ∷ es) h = go (eqb-cases (e .id) id) (λ k. unwanted-none es k)
+    where
+      go : Is (e .id) id → (any (wanted ps near) es ≡ false → ofId id es ≡ []) → keep (eqb (e .id) id) (e ∷ []) ++ ofId id es ≡ []
+      go (inl q) ih =
+          let w : wanted ps near e ≡ true = rw (q .0, ne-eqb id 0 (want .0)) (want .1) in
+          clash w (or-false-left (wanted ps near e) (any (wanted ps near) es) h)
+      go (inr q) ih = rw (q .1) (ih (or-false-right (wanted ps near e) (any (wanted ps near) es) h))
+
+  pub judged-ofId : (xs : List ℕ) (p : ℕ) (bs : List ℕ) → ofId id (scanIn xs p (judged xs p ps near bs)) ≡ ofId id (scanIn xs p bs)
+  unfolding judged those scanIn holdsWanted
+  judged-ofId xs p [] = refl
+  judged-ofId xs p (b ∷ bs) = go (any (wanted ps near) (wholeFrom xs (b * p) p)) refl (judged-ofId xs p bs)
+    where
+      rest : List ℕ
+      rest = judged xs p ps near bs
+
+      go : (t : Bool) → any (wanted ps near) (wholeFrom xs (b * p) p) ≡ t → ofId id (scanIn xs p rest) ≡ ofId id (scanIn xs p bs)
+          → ofId id (scanIn xs p (keep t (b ∷ []) ++ rest)) ≡ ofId id (wholeFrom xs (b * p) p ++ scanIn xs p bs)
+      go true e ih = ofId-append id (wholeFrom xs (b * p) p) (scanIn xs p rest) ∙ rw ih (sym (ofId-append id (wholeFrom xs (b * p) p) (scanIn xs p bs)))
+      go false e ih = ih ∙ sym (ofId-append id (wholeFrom xs (b * p) p) (scanIn xs p bs) ∙ rw (unwanted-none (wholeFrom xs (b * p) p) e))
+
+-- ---- the slide
+module _ (g : Geometry) (xs : List ℕ) (ps : List Place) (z : Zones) where
+  -- those still available, the others that were scanned, the pages near, those of the others that are kept
+  unfoldable pub stay : List ℕ
+  stay = staying xs (g .pages) (availableOf z)
+
+  unfoldable pub others : List ℕ
+  others = unavailableOf z ++ leaving xs (g .pages) (availableOf z)
+
+  unfoldable pub near : List Entry
+  near = scanIn xs (g .pages) stay
+
+  unfoldable pub kept : List ℕ
+  kept = judged xs (g .pages) ps near others
+
+  start : Taken
+  start = record { available = stay; free = freeOf z; pointer = z .pointer }
+
+  made : Taken
+  made = refill g 3 start
+
+  slide-is : slide g xs ps z ≡ zonesOf (made .available) kept (made .free) (made .pointer)
+  unfolding slide zonesTaken made start kept near others stay
+  slide-is = refl
+
+  took : Took g start made
+  unfolding made
+  took = took-refill g 3 start
+
+  -- the free blocks that become available
+  pub fresh : List ℕ
+  fresh = took .taken
+
+  pub slide-available : availableOf (slide g xs ps z) ≡ stay ++ fresh
+  unfolding start fresh
+  slide-available = rw slide-is (zonesOf-available (made .available) kept (made .free) (made .pointer) ∙ took .available)
+
+  pub slide-unavailable : unavailableOf (slide g xs ps z) ≡ kept
+  slide-unavailable = rw slide-is (zonesOf-unavailable (made .available) kept (made .free) (made .pointer))
+
+  slide-free : freeOf (slide g xs ps z) ≡ made .free
+  slide-free = rw slide-is (zonesOf-free (made .available) kept (made .free) (made .pointer))
+
+  -- free blocks stay free or become available
+  pub slide-free-sub : Sublist (freeOf (slide g xs ps z)) (freeOf z)
+  unfolding start
+  slide-free-sub = rw slide-free (took .sub)
+
+  pub slide-free-each : (b : ℕ) → occ b fresh + occ b (freeOf (slide g xs ps z)) ≡ occ b (freeOf z)
+  unfolding start fresh
+  slide-free-each b = rw slide-free (took .each b)
+
+  -- ---- the lists stay in shape
+  slide-each : (b : ℕ) → occ b (made .available ++ (kept ++ made .free)) ≤ occ b (availableOf z ++ (unavailableOf z ++ freeOf z))
+  unfolding kept others stay judged leaving staying start
+  slide-each b =
+      let p = g .pages in
+      let a = availableOf z in
+      let u = unavailableOf z in
+      let f = freeOf z in
+      omega (
+        arith,
+        ap (occ b) (took .available),
+        occ-append b stay (took .taken),
+        took .each b,
+        occ-append b (made .available) (kept ++ made .free),
+        occ-append b kept (made .free),
+        occ-sub b (sub-those (holdsWanted xs p ps near) others),
+        occ-append b u (leaving xs p a),
+        split-occ (isFull xs p) b a,
+        occ-append b a (u ++ f),
+        occ-append b u f,
+      )
+
+  slide-sum : length (made .available) + length kept + length (made .free) ≤ length (availableOf z) + length (unavailableOf z) + length (freeOf z)
+  unfolding kept others stay judged leaving staying start
+  slide-sum =
+      let p = g .pages in
+      let a = availableOf z in
+      let u = unavailableOf z in
+      omega (
+        arith,
+        ap length (took .available),
+        length-append stay (took .taken),
+        took .sum,
+        sub-length (sub-those (holdsWanted xs p ps near) others),
+        length-append u (leaving xs p a),
+        split-length (isFull xs p) a,
+      )
+
+  slide-few : length (availableOf z) ≤ 3 → length (made .available) ≤ 3
+  unfolding start stay staying
+  slide-few h = took .few (omega (arith, sub-length (sub-those (λ (b : ℕ). not (isFull xs (g .pages) b)) (availableOf z))))
+
+  pub slide-ok : zonesOk g z ≡ true → zonesOk g (slide g xs ps z) ≡ true
+  unfolding start
+  slide-ok h =
+      let k : Shape g (z .na) (z .nu) (z .nf) (availableOf z) (unavailableOf z) (freeOf z) (z .pointer) = shape g z h in
+      let n : Shape g (length (made .available)) (length kept) (length (made .free)) (made .available) kept (made .free) (made .pointer)
+      = record {
+        sum = omega (arith, k .sum, slide-sum, length-take (z .na) (z .available), length-take (z .nu) (z .unavailable), length-take (z .nf) (z .free));
+        few = slide-few (omega (arith, k .few, length-take (z .na) (z .available)));
+        blocks = λ b l. k .blocks b (omega (arith, slide-each b));
+        distinct = λ b. omega (arith, slide-each b, k .distinct b);
+        ascending = rising-sub (took .sub) (k .ascending);
+        pointer = took .pointer (λ b l. listed-block g z h b (omega arith)) (k .pointer);
+      } in
+      ap (zonesOk g) slide-is ∙ zonesOf-ok (made .available) kept (made .free) (made .pointer) g
+      ∙ shape-ok g (length (made .available)) (length kept) (length (made .free)) (made .available) kept (made .free) (made .pointer) n
+
+  -- ---- what is scanned then, free blocks being erased
+  module _ (blank : Blank xs (g .pages) (freeOf z)) where
+    fresh-blank : Blank xs (g .pages) fresh
+    fresh-blank =
+        is-each (λ (c : ℕ). usedIn xs (g .pages) c ≡ 0) fresh
+        (λ b k. each-is (λ (c : ℕ). usedIn xs (g .pages) c ≡ 0) (freeOf z) blank b (omega (arith, slide-free-each b)))
+
+    -- the free blocks that are left are erased still
+    pub slide-blank : Blank xs (g .pages) (freeOf (slide g xs ps z))
+    slide-blank = each-sub (λ (c : ℕ). usedIn xs (g .pages) c ≡ 0) slide-free-sub blank
+
+    pub slide-scan : scanOf xs (g .pages) (slide g xs ps z) ≡ scanIn xs (g .pages) kept ++ near
+    unfolding scanOf near
+    slide-scan =
+        let p = g .pages in
+        rw (slide-available, slide-unavailable)
+        (scan-append xs p kept (stay ++ fresh)
+        ∙ ap (λ (l : List Entry). scanIn xs p kept ++ l) (scan-append xs p stay fresh ∙ rw (scan-blank xs p fresh fresh-blank) (append-nil (scanIn xs p stay))))
+
+    module _ (order : Order xs (g .pages) (availableOf z)) where
+      -- the new available list is in order
+      pub slide-order : Order xs (g .pages) (availableOf (slide g xs ps z))
+      unfolding stay staying
+      slide-order =
+          let p = g .pages in
+          rw slide-available (order-append xs p stay fresh (order-sub xs p (sub-those (λ (b : ℕ). not (isFull xs p b)) (availableOf z)) order) fresh-blank)
+
+      module _ (some : 0 < g .pages) where
+        scan-before : scanOf xs (g .pages) z ≡ scanIn xs (g .pages) others ++ near
+        unfolding scanOf near others stay
+        scan-before =
+            let p = g .pages in
+            let a = availableOf z in
+            let u = unavailableOf z in
+            let e : u ++ a ≡ (u ++ leaving xs p a) ++ staying xs p a
+            = sym (append-assoc u (leaving xs p a) (staying xs p a) ∙ ap (λ (t : List ℕ). u ++ t) (order-leave xs p a some order)) in
+            ap (scanIn xs p) e ∙ scan-append xs p (u ++ leaving xs p a) (staying xs p a)
+
+        -- nothing new is scanned, and what is scanned keeps its order
+        pub slide-sub : Sublist (scanOf xs (g .pages) (slide g xs ps z)) (scanOf xs (g .pages) z)
+        unfolding kept judged
+        slide-sub = rw (slide-scan, scan-before) (sub-append (scan-sub xs (g .pages) (sub-those (holdsWanted xs (g .pages) ps near) others)) (sub-refl near))
+
+        -- what is wanted is scanned as before
+        pub slide-ofId : (id : ℕ) → Wanted ps near id → ofId id (scanOf xs (g .pages) (slide g xs ps z)) ≡ ofId id (scanOf xs (g .pages) z)
+        unfolding kept
+        slide-ofId id w =
+            let p = g .pages in
+            rw (slide-scan, scan-before) (ofId-append id (scanIn xs p kept) near ∙ rw (judged-ofId ps near id w xs p others) (sym (ofId-append id (scanIn xs p others) near)))
+
+        pub slide-active : (id : ℕ) → active id ps ≡ true → ofId id (scanOf xs (g .pages) (slide g xs ps z)) ≡ ofId id (scanOf xs (g .pages) z)
+        slide-active id e = slide-ofId id (nonzero, rw e)
+          where
+            nonzero : id ≢ 0
+            nonzero = unfold active in eqb-false id 0 (not-true (eqb id 0) (and-left (not (eqb id 0)) _ e))
