@@ -31,7 +31,7 @@ use Rattle.sequence.specs.Places.{PlacesGood, placeAt, places-set, free-
 use Rattle.sequence.specs.OpenBook.{isOpen, opened, begin-own, begin-other, begin-open, close-own, close-other, close-open}
 use Rattle.sequence.specs.Writes.{Writes, writes-begun}
 use Rattle.sequence.specs.Live.{Changing, Live, scanned}
-use Rattle.sequence.specs.View.{View, no, yes, view-test, view-gate, idle-only, refused-live}
+use Rattle.sequence.specs.View.{View, no, yes, view-test, view-gate, idle-only, Keeps, done-live, view-keeps}
 
 pub idle-calm : (k : Work) → isIdle k ≡ true → calm k ≡ true
 idle-calm Idle h = refl
@@ -53,7 +53,7 @@ live-place w b b′ i p h idle e good opens changing = record {
   sound = rw e (h .sound);
   kept = kept-away w (placed w i p) (h .saved) (h .kept) (idle-calm (w .state .work) idle) (idle-calm (w .state .work) idle)
       (record { geometry = refl; checkpoint = refl; front = refl; first = refl }) (λ k l. refl);
-  freer = h .freer;
+  grown = h .grown;
   tidy = h .tidy;
   number = h .number;
   hold = h .hold;
@@ -154,13 +154,8 @@ module _ (w : World) (b : Book) (id : ℕ) (h : Live w b) (small : id < 42949672
       })
 
 -- begin keeps the world live
-pub begin-keeps : (w : World) (b : Book) (id : ℕ) → Live w b → fits (begin id) ≡ true → Live (exec (begin id) w .world) (tell b (called (begin id) (exec (begin id) w .answer)))
-begin-keeps w b id h f = go (planBegin id w) (begin-view id w) refl
-  where
-    go : (p : Plan) → View w (Begins w id) p → planBegin id w ≡ p → Live (exec (begin id) w .world) (tell b (called (begin id) (exec (begin id) w .answer)))
-    go p (no n r) e = refused-live w b (begin id) (unfold exec plan carried in rw e r) h
-    go p (yes q v) e = done v e
-      where
-        done : Begins w id q → planBegin id w ≡ q → Live (exec (begin id) w .world) (tell b (called (begin id) (exec (begin id) w .answer)))
-        done v e = unfold exec plan carried applyOp tell entering changing fits in
-            rw (e, v .is) (begin-live w b id h (ltb-true id 4294967296 f) (v .idle) (v .name) (v .fresh) (v .room))
+pub begin-keeps : (w : World) (b : Book) (id : ℕ) → Live w b → fits (begin id) ≡ true → Keeps (begin id) w b
+unfolding plan fits carried applyOp
+begin-keeps w b id h f = view-keeps (begin id) w b (Begins w id) h (begin-view id w) (λ p e v.
+    done-live (begin id) w b p e (rw (v .is)) (rw (v .is) (unfold entering changing in
+    begin-live w b id h (ltb-true id 4294967296 f) (v .idle) (v .name) (v .fresh) (v .room))))

@@ -8,3 +8,5 @@ pub mod Sound
 pub mod Live
 pub mod View
 pub mod Begin
+pub mod Append
+pub mod Lone

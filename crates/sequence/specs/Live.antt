@@ -7,6 +7,7 @@ use Prim.Native.Nat.{ℕ, zero, suc, _+_, _-_, _*_, _/_, _≤_, _<_, max}
 use native.Mathlib.Omega.{arith}
 use mathlib.Core.List.{List, [], _∷_, _++_}
 use lib.ListN.{length, getD, replicate, length-replicate}
+use lib.Seq.{length-take-le}
 use lib.Dec.{eqb, leb, ltb}
 use Rattle.model.specs.Lists.{any}
 use borrow.Author.Tests.{lt-ltb}
@@ -23,12 +24,14 @@ use Rattle.model.specs.declared.State.{State}
 use Rattle.model.specs.declared.Zones.{Zones}
 use Rattle.arrays.specs.Tests.{and-both}
 use Rattle.arrays.specs.Ranges.{InGeometry, geometry-in, InLengths, in-lengths}
-use Rattle.front.specs.ZoneBack.{plain, plain-available, plain-unavailable, plain-free}
+use Rattle.front.specs.ZoneBack.{Fits, plain, plain-available, plain-unavailable, plain-free}
 use Rattle.front.specs.Written.{Saved}
 use Rattle.front.specs.Kept.{Kept, kept-work, kept-block, recovered-kept}
 use Rattle.front.specs.Front.{Front}
 use Rattle.front.specs.Recovered.{stateOf, front-state}
-use Rattle.scanlog.specs.Occ.{occ}
+use Rattle.scanlog.specs.Sublist.{sub-refl}
+use Rattle.scanlog.specs.Shape.{zonesOf-ok}
+use Rattle.scanlog.specs.Free.{Grown, grown-scan, grown-tidy}
 use Rattle.scanlog.specs.Logged.{Logged}
 use Rattle.scanlog.specs.Open.{Opens}
 use Rattle.scanlog.specs.Tidy.{Tidy}
@@ -40,12 +43,6 @@ use Rattle.sequence.specs.Writes.{Writes}
 use Rattle.sequence.specs.Sound.{Sound, handed, recovered}
 
 -- ---- definitions
--- the live zones against those of the newest checkpoint: the same are scanned, and no fewer are free
-pub record Freer (saved now : Zones) : Type 0 where
-  pub available : availableOf now ≡ availableOf saved
-  pub unavailable : unavailableOf now ≡ unavailableOf saved
-  pub free : (b : ℕ) → occ b (freeOf saved) ≤ occ b (freeOf now)
-
 -- the open changes of the book against the places, the array, the map and the hold
 pub record Changing (xs map hold : List ℕ) (ps : List Place) (b : Book) : Type 0 where
   pub eight : length ps ≡ 8
@@ -61,7 +58,7 @@ pub record Live (w : World) (b : Book) : Type 0 where
   pub saved : Saved
   pub sound : Sound (w .state .geometry) (w .array) saved (w .map) (w .state .version) (b .pages)
   pub kept : Kept w saved
-  pub freer : Freer (saved .zones) (w .state .zones)
+  pub grown : Grown (saved .zones) (w .state .zones)
   pub tidy : Tidy (w .state .geometry) (w .array) (w .state .zones)
   pub number : w .state .checkpoint ≤ 4294967294
   pub hold : length (w .hold) ≡ 4096
@@ -70,17 +67,12 @@ pub record Live (w : World) (b : Book) : Type 0 where
   pub changing : Changing (w .array) (w .map) (w .hold) (w .state .places) b
 
 -- ---- laws
--- the scan of the live zones is that of the checkpoint's
-pub freer-scan : (xs : List ℕ) (p : ℕ) (z now : Zones) → Freer z now → scanOf xs p now ≡ scanOf xs p z
-unfolding scanOf
-freer-scan xs p z now f = rw (f .available, f .unavailable)
-
 module _ (w : World) (b : Book) (h : Live w b) where
   pub live-range : InGeometry (w .state .geometry)
   live-range = geometry-in (w .state .geometry) (h .sound .geometry)
 
   pub live-logged : Logged (w .state .geometry .logical) (h .saved .version) (h .saved .map) (scanned w) (w .map) (w .state .version)
-  live-logged = rw (freer-scan (w .array) (w .state .geometry .pages) (h .saved .zones) (w .state .zones) (h .freer)) (h .sound .logged)
+  live-logged = rw (grown-scan (h .saved .zones) (w .state .zones) (h .grown) (w .array) (w .state .geometry .pages)) at (h .sound .logged)
 
   pub live-lent : lentOk (w .state .geometry) w ≡ true
   unfolding lentOk
@@ -124,15 +116,30 @@ places-free g = record { ok = each 8; apart = λ i j l k n z. absurd (z (free-at
 abbrev pub closedBook : Book → Book
 closedBook b = record { pages = b .pages; changes = [] }
 
+-- the zones of a checkpoint, read back
+plain-grown : (z : Zones) → Grown (plain z) z
+plain-grown z = record { available = plain-available z; unavailable = plain-unavailable z; free = rw (plain-free z) (sub-refl (freeOf z)) }
+
+grown-plain : (z : Zones) → Grown z (plain z)
+grown-plain z = record { available = sym (plain-available z); unavailable = sym (plain-unavailable z); free = rw (plain-free z) (sub-refl (freeOf z)) }
+
+plain-ok : (g : Geometry) (z : Zones) → Fits z → zonesOk g z ≡ true → zonesOk g (plain z) ≡ true
+unfolding plain zonesOk
+plain-ok g z f h =
+    let a : length (availableOf z) ≡ z .na = length-take-le (z .na) (z .available) (f .available) in
+    let u : length (unavailableOf z) ≡ z .nu = length-take-le (z .nu) (z .unavailable) (f .unavailable) in
+    let e : length (freeOf z) ≡ z .nf = length-take-le (z .nf) (z .free) (f .free) in
+    zonesOf-ok (availableOf z) (unavailableOf z) (freeOf z) (z .pointer) g ∙ rw (a, u, e) h
+
 pub sound-live : (g : Geometry) (xs : List ℕ) (c : Saved) (map : List ℕ) (version : ℕ) (b : Book) (hold : List ℕ) → c .number ≤ 4294967294
-    → (h : Sound g xs c map version (b .pages)) → length hold ≡ 4096 → Tidy g xs (plain (c .zones)) → Live (handed xs map hold (recovered g xs c map version (b .pages) h)) (closedBook b)
+    → (h : Sound g xs c map version (b .pages)) → length hold ≡ 4096 → Live (handed xs map hold (recovered g xs c map version (b .pages) h)) (closedBook b)
 unfolding stateOf isOpen
-sound-live g xs c map version b hold n h e t = record {
+sound-live g xs c map version b hold n h e = record {
     saved = c;
     sound = subst (λ (v : ℕ). Sound g xs c map v (b .pages)) (sym (h .logged .last)) h;
     kept = subst (λ (s : State). Kept (handed xs map hold s) c) (front-state g xs c (h .front)) (recovered-kept g xs map hold c (h .front));
-    freer = record { available = plain-available (c .zones); unavailable = plain-unavailable (c .zones); free = λ k. omega (arith, ap (occ k) (plain-free (c .zones))) };
-    tidy = t;
+    grown = grown-plain (c .zones);
+    tidy = grown-tidy (plain (c .zones)) (c .zones) (plain-grown (c .zones)) g xs (plain-ok g (c .zones) (h .front .fits) (h .sane .zones)) (h .tidy);
     number = n;
     hold = e;
     places = places-free g;

@@ -64,3 +64,32 @@ told-refused b c n h = go (eqb n 0) h (record { pages = entering c b; changes = 
 -- a refused call leaves a live world and its book
 pub refused-live : (w : World) (b : Book) (c : Call) → refused (exec c w .answer) ≡ true → Live w b → Live (exec c w .world) (tell b (called c (exec c w .answer)))
 refused-live w b c r h = rw (told-refused b c (exec c w .answer) r) (rw (refused-same w c r) h)
+
+-- what a live world becomes with a call, and its book
+abbrev pub Keeps : Call → World → Book → Type 0
+Keeps c w b = Live (exec c w .world) (tell b (called c (exec c w .answer)))
+
+-- a call that is done
+pub done-live : (c : Call) (w : World) (b : Book) (p : Plan) → plan c w ≡ p → p .answer ≡ 0
+    → Live (after p w) (record { pages = entering c b; changes = changing c (b .changes) }) → Keeps c w b
+unfolding exec tell
+done-live c w b p e z h = rw e (answered (carried p w .answer) (unfold carried in z))
+  where
+    answered : (n : ℕ) → n ≡ 0 → Live (after p w) (cond (eqb n 0) (record { pages = entering c b; changes = changing c (b .changes) }) b)
+    answered n q = rw q h
+
+-- a call that goes on
+pub more-live : (c : Call) (w : World) (b : Book) (p : Plan) → plan c w ≡ p → p .answer ≡ 255 → Live (after p w) b → Keeps c w b
+unfolding exec tell
+more-live c w b p e z h = rw e (answered (carried p w .answer) (unfold carried in z))
+  where
+    answered : (n : ℕ) → n ≡ 255 → Live (after p w) (cond (eqb n 0) (record { pages = entering c b; changes = changing c (b .changes) }) b)
+    answered n q = rw q h
+
+-- a call by its cases
+pub view-keeps : (c : Call) (w : World) (b : Book) (P : Plan → Type 0) → Live w b → View w P (plan c w) → ((p : Plan) → plan c w ≡ p → P p → Keeps c w b) → Keeps c w b
+view-keeps c w b P h v k = go (plan c w) refl v
+  where
+    go : (p : Plan) → plan c w ≡ p → View w P p → Keeps c w b
+    go p e (no n r) = refused-live w b c (unfold exec carried in rw e r) h
+    go p e (yes q x) = k q e x
