@@ -10,3 +10,4 @@ pub mod View
 pub mod Begin
 pub mod Append
 pub mod Lone
+pub mod Abort
