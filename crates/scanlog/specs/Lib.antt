@@ -14,3 +14,4 @@ pub mod Slide
 pub mod Tidy
 pub mod Free
 pub mod Start
+pub mod LogAt
