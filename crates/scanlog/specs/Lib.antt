@@ -10,7 +10,10 @@ pub mod Take
 pub mod Open
 pub mod Pick
 pub mod Order
+pub mod Judged
 pub mod Slide
 pub mod Tidy
 pub mod Free
 pub mod Start
+pub mod LogAt
+pub mod Reclaim

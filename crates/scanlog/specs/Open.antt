@@ -20,12 +20,13 @@ use Rattle.model.specs.declared.Geometry.{Geometry}
 use Rattle.model.specs.declared.Place.{Place}
 use Rattle.arrays.specs.Tests.{Is, eqb-cases, and-left, and-right, or-cases, all-at}
 use Rattle.scanlog.specs.Log.{NoMark, ofId-same, ofId-other, enter-append}
+use Rattle.scanlog.specs.Good.{dataEntry}
 use Rattle.scanlog.specs.Logged.{off-none}
 
 -- ---- the pages of a place as entries
 -- the entry of page k with a logical page of a change that is not marked
-unfoldable pub openEntry : ℕ → ℕ → ℕ → Entry
-openEntry id k lpn = record { ppn = k; lpn = lpn; cnt = 0; id = id; ver = 0; kind = 0; reserved = 0 }
+abbrev pub openEntry : ℕ → ℕ → ℕ → Entry
+openEntry id k lpn = dataEntry k lpn 0 id 0
 
 -- the entries of the first n pages of a place
 unfoldable pub laid : ℕ → List ℕ → List ℕ → ℕ → List Entry
@@ -64,7 +65,7 @@ laid-same id lpns ppns lpns′ ppns′ (suc n) h k =
 
 -- entered in a map, they are what a commit enters
 pub laid-entered : (m : List ℕ) (id : ℕ) (lpns ppns : List ℕ) (n : ℕ) → enter m (laid id lpns ppns n) ≡ entered m lpns ppns n
-unfolding laid entered enter openEntry
+unfolding laid entered enter
 laid-entered m id lpns ppns zero = refl
 laid-entered m id lpns ppns (suc n) =
     enter-append m (laid id lpns ppns n) (openEntry id (getD ppns n 0) (getD lpns n 0) ∷ [])
@@ -81,7 +82,7 @@ unmarked-append [] ys h k = k
 unmarked-append (x ∷ xs) ys h k = (h .0, unmarked-append xs ys (h .1) k)
 
 laid-unmarked : (id : ℕ) (lpns ppns : List ℕ) (n : ℕ) → Unmarked (laid id lpns ppns n)
-unfolding laid openEntry
+unfolding laid
 laid-unmarked id lpns ppns zero = tt
 laid-unmarked id lpns ppns (suc n) = unmarked-append (laid id lpns ppns n) (openEntry id (getD ppns n 0) (getD lpns n 0) ∷ []) (laid-unmarked id lpns ppns n) (refl, tt)
 
@@ -116,7 +117,7 @@ module _ (p : Place) (es : List Entry) (o : Open p es) where
 
   -- the next one programs the page held before it
   pub open-more : (k lpn : ℕ) → p .count ≢ 0 → p .count ≤ length (p .ppns) → Open (written p k lpn) (es ++ (openEntry (p .id) k (heldPage p) ∷ []))
-  unfolding written openEntry
+  unfolding written
   open-more k lpn z l =
       let n = p .count - 1 in
       let c : p .count ≡ suc n = omega arith in

@@ -1,90 +1,30 @@
 -- What a checkpoint moves: every block with a page of an active transaction stays listed, what stays keeps its order, and nothing new is scanned;
 -- the zones stay in shape.
 use mathlib.Core.Path.{_≡_, refl, sym, ap, _∙_}
-use mathlib.Core.Logic.{inl, inr, _≢_}
-use mathlib.Core.Bool.{Bool, true, false, not, _||_}
+use mathlib.Core.Logic.{_≢_}
+use mathlib.Core.Bool.{true, not}
 use Prim.Native.Nat.{ℕ, _+_, _*_, _≤_, _<_}
 use native.Mathlib.Omega.{arith}
-use mathlib.Core.List.{List, [], _∷_, _++_, append-nil, append-assoc}
+use mathlib.Core.List.{List, _++_, append-nil, append-assoc}
 use lib.ListN.{length, length-append, length-take}
 use lib.Dec.{eqb}
-use borrow.Author.Tests.{eqb-false, ne-eqb, not-true}
-use Rattle.model.specs.Lists.{any, keep, those}
-use Rattle.model.specs.Recovery.{ofId}
-use Rattle.model.specs.Zones.{Entry, wholeFrom, usedIn, isFull, scanIn, scanOf, availableOf, unavailableOf, freeOf, zonesOf, zonesOk, onPages, active, wanted, staying, leaving, holdsWanted, judged, Taken, refill, zonesTaken, slide}
+use borrow.Author.Tests.{eqb-false, not-true}
+use Rattle.model.specs.Recovery.{ofId, top}
+use Rattle.model.specs.Zones.{Entry, wholeFrom, usedIn, isFull, scanIn, scanOf, availableOf, unavailableOf, freeOf, zonesOf, zonesOk, active, staying, leaving, holdsWanted, judged, Taken, refill, zonesTaken, slide}
 use Rattle.model.specs.declared.Geometry.{Geometry}
 use Rattle.model.specs.declared.Zones.{Zones}
 use Rattle.model.specs.declared.Place.{Place}
-use Rattle.arrays.specs.Tests.{clash, Is, eqb-cases, and-left, or-false-left, or-false-right}
-use Rattle.arrays.specs.Used.{used-in-le}
+use Rattle.arrays.specs.Tests.{and-left}
 use Rattle.arrays.specs.Scan.{Blank, scan-append, scan-blank}
-use Rattle.scanlog.specs.Sublist.{Sublist, nil, skip, both, sub-refl, sub-nil, sub-append, sub-those, sub-length}
+use Rattle.scanlog.specs.Sublist.{Sublist, sub-refl, sub-append, sub-those, sub-length}
 use Rattle.scanlog.specs.Occ.{occ, occ-append, occ-sub, split-occ, split-length}
 use Rattle.scanlog.specs.Rising.{rising-sub}
 use Rattle.scanlog.specs.Log.{ofId-append}
 use Rattle.scanlog.specs.Shape.{Shape, shape, shape-ok, listed-block, zonesOf-available, zonesOf-unavailable, zonesOf-free, zonesOf-ok}
 use Rattle.scanlog.specs.Take.{Took, took-refill}
 use Rattle.scanlog.specs.Order.{Order, each-sub, each-is, is-each, order-sub, order-append}
+use Rattle.scanlog.specs.Judged.{scan-sub, order-leave, Wanted, judged-ofId, Complete, unwanted-complete, block-top, judged-gone}
 
-pub scan-sub : (xs : List ℕ) (p : ℕ) {cs bs : List ℕ} → Sublist cs bs → Sublist (scanIn xs p cs) (scanIn xs p bs)
-unfolding scanIn
-scan-sub xs p nil = nil
-scan-sub xs p (skip b s) = sub-append (sub-nil (wholeFrom xs (b * p) p)) (scan-sub xs p s)
-scan-sub xs p (both b s) = sub-append (sub-refl (wholeFrom xs (b * p) p)) (scan-sub xs p s)
-
--- ---- full blocks leave
--- erased blocks all stay
-blank-stay : (xs : List ℕ) (p : ℕ) (bs : List ℕ) → 0 < p → Blank xs p bs → (leaving xs p bs ≡ []) × (staying xs p bs ≡ bs)
-unfolding leaving staying those isFull
-blank-stay xs p [] l h = (refl, refl)
-blank-stay xs p (b ∷ bs) l h =
-    let z : eqb (usedIn xs p b) p ≡ false = ne-eqb (usedIn xs p b) p (λ q. absurd (omega (arith, h .0))) in
-    (rw z (blank-stay xs p bs l (h .1) .0), rw z (ap (λ (t : List ℕ). b ∷ t) (blank-stay xs p bs l (h .1) .1)))
-
--- in order, the full blocks come first
-pub order-leave : (xs : List ℕ) (p : ℕ) (bs : List ℕ) → 0 < p → Order xs p bs → leaving xs p bs ++ staying xs p bs ≡ bs
-unfolding leaving staying those isFull
-order-leave xs p [] l r = refl
-order-leave xs p (b ∷ bs) l r = go (eqb-cases (usedIn xs p b) p) (order-leave xs p bs l (r .1))
-  where
-    go : Is (usedIn xs p b) p → leaving xs p bs ++ staying xs p bs ≡ bs
-        → (keep (eqb (usedIn xs p b) p) (b ∷ []) ++ leaving xs p bs) ++ (keep (not (eqb (usedIn xs p b) p)) (b ∷ []) ++ staying xs p bs) ≡ b ∷ bs
-    go (inl q) ih = rw (q .1) (ap (λ (t : List ℕ). b ∷ t) ih)
-    go (inr q) ih =
-        let k = blank-stay xs p bs l (r .0 (omega (arith, used-in-le xs p b, q .0))) in
-        rw (q .1, k .0, k .1)
-
--- ---- what is wanted is kept
--- the identifier is active, or has a page among those near
-abbrev pub Wanted : List Place → List Entry → ℕ → Type 0
-Wanted ps near id = (id ≢ 0) × ((active id ps || onPages id near) ≡ true)
-
-module _ (ps : List Place) (near : List Entry) (id : ℕ) (want : Wanted ps near id) where
-  unwanted-none : (es : List Entry) → any (wanted ps near) es ≡ false → ofId id es ≡ []
-  unfolding any ofId those wanted
-  unwanted-none [] h = refl
-  unwanted-none (e ∷ es) h = go (eqb-cases (e .id) id) (λ k. unwanted-none es k)
-    where
-      go : Is (e .id) id → (any (wanted ps near) es ≡ false → ofId id es ≡ []) → keep (eqb (e .id) id) (e ∷ []) ++ ofId id es ≡ []
-      go (inl q) ih =
-          let w : wanted ps near e ≡ true = rw (q .0, ne-eqb id 0 (want .0)) (want .1) in
-          clash w (or-false-left (wanted ps near e) (any (wanted ps near) es) h)
-      go (inr q) ih = rw (q .1) (ih (or-false-right (wanted ps near e) (any (wanted ps near) es) h))
-
-  pub judged-ofId : (xs : List ℕ) (p : ℕ) (bs : List ℕ) → ofId id (scanIn xs p (judged xs p ps near bs)) ≡ ofId id (scanIn xs p bs)
-  unfolding judged those scanIn holdsWanted
-  judged-ofId xs p [] = refl
-  judged-ofId xs p (b ∷ bs) = go (any (wanted ps near) (wholeFrom xs (b * p) p)) refl (judged-ofId xs p bs)
-    where
-      rest : List ℕ
-      rest = judged xs p ps near bs
-
-      go : (t : Bool) → any (wanted ps near) (wholeFrom xs (b * p) p) ≡ t → ofId id (scanIn xs p rest) ≡ ofId id (scanIn xs p bs)
-          → ofId id (scanIn xs p (keep t (b ∷ []) ++ rest)) ≡ ofId id (wholeFrom xs (b * p) p ++ scanIn xs p bs)
-      go true e ih = ofId-append id (wholeFrom xs (b * p) p) (scanIn xs p rest) ∙ rw ih (sym (ofId-append id (wholeFrom xs (b * p) p) (scanIn xs p bs)))
-      go false e ih = ih ∙ sym (ofId-append id (wholeFrom xs (b * p) p) (scanIn xs p bs) ∙ rw (unwanted-none (wholeFrom xs (b * p) p) e))
-
--- ---- the slide
 module _ (g : Geometry) (xs : List ℕ) (ps : List Place) (z : Zones) where
   -- those still available, the others that were scanned, the pages near, those of the others that are kept
   unfoldable pub stay : List ℕ
@@ -231,6 +171,26 @@ module _ (g : Geometry) (xs : List ℕ) (ps : List Place) (z : Zones) where
             let e : u ++ a ≡ (u ++ leaving xs p a) ++ staying xs p a
             = sym (append-assoc u (leaving xs p a) (staying xs p a) ∙ ap (λ (t : List ℕ). u ++ t) (order-leave xs p a some order)) in
             ap (scanIn xs p) e ∙ scan-append xs p (u ++ leaving xs p a) (staying xs p a)
+
+        -- a block that is scanned no longer has pages of complete transactions alone, none with a version above those scanned
+        pub slide-leaves : (b : ℕ) → 0 < occ b (unavailableOf z ++ availableOf z) → occ b (unavailableOf (slide g xs ps z) ++ availableOf (slide g xs ps z)) ≡ 0
+            → Complete ps near (wholeFrom xs (b * g .pages) (g .pages)) × (top (wholeFrom xs (b * g .pages) (g .pages)) ≤ top (scanOf xs (g .pages) z))
+        unfolding scanOf kept others stay holdsWanted
+        slide-leaves b h k =
+            let p = g .pages in
+            let n : occ b (kept ++ (stay ++ fresh)) ≡ 0 = rw (slide-available, slide-unavailable) at k in
+            let o : 0 < occ b others
+            = omega (
+              arith,
+              n,
+              ap (occ b) (order-leave xs p (availableOf z) some order),
+              occ-append b (leaving xs p (availableOf z)) (staying xs p (availableOf z)),
+              occ-append b (unavailableOf z) (availableOf z),
+              occ-append b (unavailableOf z) (leaving xs p (availableOf z)),
+              occ-append b kept (stay ++ fresh),
+              occ-append b stay fresh,
+            ) in
+            (unwanted-complete ps near (wholeFrom xs (b * p) p) (judged-gone xs p ps near others b o (omega (arith, n, occ-append b kept (stay ++ fresh)))), block-top xs p (unavailableOf z ++ availableOf z) b h)
 
         -- nothing new is scanned, and what is scanned keeps its order
         pub slide-sub : Sublist (scanOf xs (g .pages) (slide g xs ps z)) (scanOf xs (g .pages) z)
