@@ -36,11 +36,11 @@ module _ (xs map hold : List ℕ) (ps : List Place) (b : Book) (id i : ℕ) (f :
 
   pub changing-close : (ps′ : Book) → ps′ .changes ≡ close id (b .changes) → Changing xs map hold (set ps i freePlace) ps′
   changing-close b′ e = record {
-      eight = length-set ps i freePlace ∙ c .eight;
-      writes = λ j l z. writes-at j l z (eqb-cases j i);
-      opened = λ j l z. opened-at j l z (eqb-cases j i);
-      closed = λ x n k. closed-at x n k (eqb-cases x id);
-    }
+    eight = length-set ps i freePlace ∙ c .eight;
+    writes = λ j l z. writes-at j l z (eqb-cases j i);
+    opened = λ j l z. opened-at j l z (eqb-cases j i);
+    closed = λ x n k. closed-at x n k (eqb-cases x id);
+  }
     where
       writes-at : (j : ℕ) → j < 8 → placeAt (set ps i freePlace) j .id ≢ 0 → Is j i → Writes xs map hold j (placeAt (set ps i freePlace) j) (writesOf (placeAt (set ps i freePlace) j .id) (b′ .changes))
       writes-at j l z (inl q) = absurd (z (at-own j (q .0)))

@@ -11,3 +11,6 @@ pub mod Begin
 pub mod Append
 pub mod Lone
 pub mod Abort
+pub mod Hold
+pub mod Write
+pub mod Commit

@@ -135,19 +135,19 @@ pub sound-live : (g : Geometry) (xs : List ℕ) (c : Saved) (map : List ℕ) (ve
     → (h : Sound g xs c map version (b .pages)) → length hold ≡ 4096 → Live (handed xs map hold (recovered g xs c map version (b .pages) h)) (closedBook b)
 unfolding stateOf isOpen
 sound-live g xs c map version b hold n h e = record {
-    saved = c;
-    sound = subst (λ (v : ℕ). Sound g xs c map v (b .pages)) (sym (h .logged .last)) h;
-    kept = subst (λ (s : State). Kept (handed xs map hold s) c) (front-state g xs c (h .front)) (recovered-kept g xs map hold c (h .front));
-    grown = grown-plain (c .zones);
-    tidy = grown-tidy (plain (c .zones)) (c .zones) (plain-grown (c .zones)) g xs (plain-ok g (c .zones) (h .front .fits) (h .sane .zones)) (h .tidy);
-    number = n;
-    hold = e;
-    places = places-free g;
-    opens = λ i l z. absurd (z (free-at 8 i));
-    changing = record {
-      eight = length-replicate {A = Place} 8 freePlace;
-      writes = λ i l z. absurd (z (free-at 8 i));
-      opened = λ i l z. absurd (z (free-at 8 i));
-      closed = λ id n k. unfold any in refl;
-    };
-  }
+  saved = c;
+  sound = subst (λ (v : ℕ). Sound g xs c map v (b .pages)) (sym (h .logged .last)) h;
+  kept = subst (λ (s : State). Kept (handed xs map hold s) c) (front-state g xs c (h .front)) (recovered-kept g xs map hold c (h .front));
+  grown = grown-plain (c .zones);
+  tidy = grown-tidy (plain (c .zones)) (c .zones) (plain-grown (c .zones)) g xs (plain-ok g (c .zones) (h .front .fits) (h .sane .zones)) (h .tidy);
+  number = n;
+  hold = e;
+  places = places-free g;
+  opens = λ i l z. absurd (z (free-at 8 i));
+  changing = record {
+    eight = length-replicate {A = Place} 8 freePlace;
+    writes = λ i l z. absurd (z (free-at 8 i));
+    opened = λ i l z. absurd (z (free-at 8 i));
+    closed = λ id n k. unfold any in refl;
+  };
+}

@@ -47,10 +47,10 @@ use Rattle.sequence.specs.Append.{appended, next-is-data, next-mapped, n
 -- ---- the open changes while the array grows
 -- every place keeps its writes
 pub changing-grow : (xs ys map map′ hold : List ℕ) (ps : List Place) (b b′ : Book) → b′ .changes ≡ b .changes → WholeSame xs ys
-    → ((id x : ℕ) (d : List ℕ) → Laid xs map id x d → occ x map′ ≡ 0) → Changing xs map hold ps b → Changing ys map′ hold ps b′
+    → ((i : ℕ) → i < 8 → placeAt ps i .id ≢ 0 → (x : ℕ) (d : List ℕ) → Laid xs map (placeAt ps i .id) x d → occ x map′ ≡ 0) → Changing xs map hold ps b → Changing ys map′ hold ps b′
 changing-grow xs ys map map′ hold ps b b′ e same o c = record {
   eight = c .eight;
-  writes = λ i l z. rw e (writes-keep xs ys map map′ hold hold i (placeAt ps i) _ same (λ x d. o (placeAt ps i .id) x d) refl (c .writes i l z));
+  writes = λ i l z. rw e (writes-keep xs ys map map′ hold hold i (placeAt ps i) _ same (o i l z) refl (c .writes i l z));
   opened = λ i l z. rw e (c .opened i l z);
   closed = λ id n k. rw e (c .closed id n k);
 }
@@ -136,7 +136,7 @@ lone-live w b lpn d h small v =
       places = h .places;
       opens = rw (append-scan w b h clean d s (v .long) small fit) (lone-opens w b h clean lpn d (v .long) small (v .low) (v .more));
       changing = changing-grow (w .array) ys (w .map) (loneMap lpn w) (w .hold) (w .state .places) b _ refl (append-keeps w b h clean d s (v .long) small fit)
-          (laid-still (w .array) (w .map) lpn k (next-blank w b h clean d s (v .long) small fit)) (h .changing);
+          (λ j l z. laid-still (w .array) (w .map) lpn k (next-blank w b h clean d s (v .long) small fit) (placeAt (w .state .places) j .id)) (h .changing);
     }
 
 pub lone-keeps : (w : World) (b : Book) (lpn : ℕ) (d : List ℕ) → Live w b → fits (lone lpn d) ≡ true → Keeps (lone lpn d) w b

@@ -62,9 +62,9 @@ places-ok g (p ∷ ps) h =
 pub places-set : (g : Geometry) (ps : List Place) (i : ℕ) (p : Place) → PlacesGood g ps → placeOk g p ≡ true
     → (p .id ≢ 0 → (j : ℕ) → j < length ps → j ≢ i → placeAt ps j .id ≢ p .id) → PlacesGood g (set ps i p)
 places-set g ps i p h o a = record {
-    ok = λ j l. ok-at j (rw length-set at l) (eqb-cases j i);
-    apart = λ j k l m n. apart-at j k (rw length-set at l) (rw length-set at m) n (eqb-cases j i) (eqb-cases k i);
-  }
+  ok = λ j l. ok-at j (rw length-set at l) (eqb-cases j i);
+  apart = λ j k l m n. apart-at j k (rw length-set at l) (rw length-set at m) n (eqb-cases j i) (eqb-cases k i);
+}
   where
     same : (j : ℕ) → j ≡ i → j < length ps → placeAt (set ps i p) j ≡ p
     same j e l = rw e (getD-set-same ps i p noPlace (omega arith))

@@ -69,7 +69,7 @@ at-new (w ∷ ws) x zero h = absurd (omega arith)
 at-new (w ∷ ws) x (suc j) h = at-new ws x j (omega arith)
 
 -- ---- kept
-laid-keep : (xs ys map map′ : List ℕ) (id k : ℕ) (d : List ℕ) → WholeSame xs ys → occ k map′ ≡ 0 → Laid xs map id k d → Laid ys map′ id k d
+pub laid-keep : (xs ys map map′ : List ℕ) (id k : ℕ) (d : List ℕ) → WholeSame xs ys → occ k map′ ≡ 0 → Laid xs map id k d → Laid ys map′ id k d
 laid-keep xs ys map map′ id k d same o l =
     let e = same k (l .whole) in
     record { whole = whole-same xs ys k k e ∙ l .whole; bytes = data-same xs ys k k e ∙ l .bytes; owner = rw e (l .owner); free = o }

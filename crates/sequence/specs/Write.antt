@@ -1,0 +1,372 @@
+-- A write keeps the world live: the page held before is programmed without a mark, and the new one is held.
+use mathlib.Core.Path.{_≡_, refl, sym, ap, _∙_, subst}
+use mathlib.Core.Logic.{_⊎_, inl, inr, _≢_}
+use mathlib.Core.Bool.{Bool, true, false, not, cond, _&&_, _||_}
+use Prim.Native.Nat.{ℕ, zero, suc, _+_, _-_, _*_, _≤_, _<_}
+use native.Mathlib.Omega.{arith}
+use mathlib.Core.List.{List, [], _∷_, _++_}
+use lib.ListN.{length, take, getD, set, length-set}
+use lib.Seq.{getD-set-same, getD-set-other}
+use lib.Dec.{eqb, leb, ltb}
+use borrow.Author.Tests.{eqb-true, eqb-false, eq-eqb, ne-eqb, ltb-true, leb-true, leb-false, lt-ltb, le-leb, not-false, not-true}
+use Rattle.model.specs.Lists.{all}
+use Rattle.model.specs.Page.{pageBytes, wholeAt, blankAt}
+use Rattle.model.specs.Bytes.{bytes}
+use Rattle.model.specs.Geometry.{dataPage}
+use Rattle.model.specs.Zones.{Entry, entryOf, scanOf}
+use Rattle.model.specs.Recovery.{ofId}
+use Rattle.model.specs.Answers.{refused}
+use Rattle.model.specs.World.{World, Plan, Op, refuse, none, program, applyOp}
+use Rattle.model.specs.Frame.{noPlace, badId, placeOk, isIdle}
+use Rattle.model.specs.Transactions.{placeOf, withPlace, cleanPages, nextPage, zoneShort, dataBytes, heldAt, holdWith, heldPage, longestChange, written, heldOp, writePlan, planWrite}
+use Rattle.model.specs.Commands.{Call, write, plan, carried, exec, Outcome}
+use Rattle.model.specs.Book.{Book, Write, Event, called, holds, tell, entering, changing, writesOf, addTo}
+use Rattle.model.specs.Sequence.{fits}
+use Rattle.model.specs.declared.Geometry.{Geometry}
+use Rattle.model.specs.declared.Place.{Place}
+use Rattle.model.specs.declared.Spare.{Spare}
+use Rattle.model.specs.declared.State.{State}
+use Rattle.arrays.specs.Tests.{Is, eqb-cases, clash, decide, and-left, and-right, and-both, and-cases, or-cases, or-false-right, or-left, or-right, all-at}
+use Rattle.arrays.specs.Bytelist.{Bytes, bytes-true}
+use Rattle.arrays.specs.Image.{SpareFits}
+use Rattle.arrays.specs.Ranges.{InGeometry}
+use Rattle.front.specs.Local.{SameFront}
+use Rattle.front.specs.Kept.{kept-away}
+use Rattle.scanlog.specs.Log.{ofId-other}
+use Rattle.scanlog.specs.Good.{Plain}
+use Rattle.scanlog.specs.Logged.{Logged, logged-page}
+use Rattle.scanlog.specs.Open.{Open, Opens, openEntry, opens-set, open-noMark, open-first, open-more}
+use Rattle.scanlog.specs.Tidy.{Tidy}
+use Rattle.sequence.specs.Places.{PlacesGood, placeAt, places-set, all-by-at, Found, place-found}
+use Rattle.sequence.specs.OpenBook.{isOpen, add-own, add-other, add-open}
+use Rattle.sequence.specs.Writes.{Laid, Writes, WholeSame, writes-keep, writes-more}
+use Rattle.sequence.specs.Hold.{hold-own, hold-other, hold-long, held-long}
+use Rattle.sequence.specs.Sound.{Sound}
+use Rattle.sequence.specs.Live.{Changing, Live, live-range, live-logged, scanned}
+use Rattle.sequence.specs.View.{View, no, yes, view-test, view-gate, idle-only, Keeps, done-live, view-keeps}
+use Rattle.sequence.specs.Begin.{idle-calm}
+use Rattle.sequence.specs.Abort.{found-apart}
+use Rattle.sequence.specs.Lone.{room-clean}
+use Rattle.sequence.specs.Append.{appended, next-is-data, next-mapped, next-blank, next-free, append-whole, append-data, append-spare, append-keeps, append-tidy, append-scan, append-front, append-sound, append-contents}
+
+-- ---- a place in range, by its parts
+pub record PlaceIn (g : Geometry) (p : Place) : Type 0 where
+  pub few : p .count ≤ 64
+  pub name : (badId (p .id) ≡ false) ⊎ ((p .id ≡ 0) × (p .count ≡ 0))
+  pub lpns : all (λ (l : ℕ). ltb l (g .logical)) (take (p .count) (p .lpns)) ≡ true
+  pub ppns : all (dataPage g) (take (p .count - 1) (p .ppns)) ≡ true
+
+pub place-in : (g : Geometry) (p : Place) → placeOk g p ≡ true → PlaceIn g p
+unfolding placeOk
+place-in g p h =
+    let a = and-right (leb (p .count) 64) _ h in
+    let n = and-left (not (badId (p .id)) || (eqb (p .id) 0 && eqb (p .count) 0)) _ a in
+    let c = and-right (not (badId (p .id)) || (eqb (p .id) 0 && eqb (p .count) 0)) _ a in
+    record {
+      few = leb-true (p .count) 64 (and-left (leb (p .count) 64) _ h);
+      name = pick (or-cases (not (badId (p .id))) _ n);
+      lpns = and-left (all (λ (l : ℕ). ltb l (g .logical)) (take (p .count) (p .lpns))) _ c;
+      ppns = and-right (all (λ (l : ℕ). ltb l (g .logical)) (take (p .count) (p .lpns))) _ c;
+    }
+  where
+    pick : (not (badId (p .id)) ≡ true) ⊎ ((eqb (p .id) 0 && eqb (p .count) 0) ≡ true) → (badId (p .id) ≡ false) ⊎ ((p .id ≡ 0) × (p .count ≡ 0))
+    pick (inl e) = inl (not-true (badId (p .id)) e)
+    pick (inr e) = inr (eqb-true (p .id) 0 (and-left (eqb (p .id) 0) _ e), eqb-true (p .count) 0 (and-right (eqb (p .id) 0) _ e))
+
+pub in-place : (g : Geometry) (p : Place) → PlaceIn g p → placeOk g p ≡ true
+unfolding placeOk
+in-place g p h =
+    and-both (leb (p .count) 64) _ (le-leb (p .count) 64 (h .few))
+    (and-both (not (badId (p .id)) || (eqb (p .id) 0 && eqb (p .count) 0)) _ (pick (h .name)) (and-both _ _ (h .lpns) (h .ppns)))
+  where
+    pick : (badId (p .id) ≡ false) ⊎ ((p .id ≡ 0) × (p .count ≡ 0)) → (not (badId (p .id)) || (eqb (p .id) 0 && eqb (p .count) 0)) ≡ true
+    pick (inl e) = or-left (not (badId (p .id))) _ (ap not e)
+    pick (inr e) = or-right (not (badId (p .id))) _ (and-both (eqb (p .id) 0) (eqb (p .count) 0) (eq-eqb (p .id) 0 (e .0)) (eq-eqb (p .count) 0 (e .1)))
+
+-- an identifier that 6 does not refuse
+pub good-name : (id : ℕ) → badId id ≡ false → id ≢ 4294967295
+unfolding badId
+good-name id h q = clash (eq-eqb id 4294967295 q) (or-false-right (eqb id 0) (eqb id 4294967295) h)
+
+-- the first numbers of a list, one by one
+getD-first : (n : ℕ) (l : List ℕ) (i : ℕ) → i < n → getD (take n l) i 0 ≡ getD l i 0
+getD-first zero l i h = absurd (omega arith)
+getD-first (suc n) [] i h = refl
+getD-first (suc n) (x ∷ l) zero h = refl
+getD-first (suc n) (x ∷ l) (suc i) h = getD-first n l i (omega arith)
+
+length-first : (n : ℕ) (l : List ℕ) → n ≤ length l → length (take n l) ≡ n
+length-first zero l h = refl
+length-first (suc n) [] h = absurd (omega arith)
+length-first (suc n) (x ∷ l) h = ap suc (length-first n l (omega arith))
+
+pub first-passes : (p : ℕ → Bool) (n : ℕ) (l : List ℕ) → n ≤ length l → all p (take n l) ≡ true → (i : ℕ) → i < n → p (getD l i 0) ≡ true
+first-passes p n l h a i k = rw (getD-first n l i k) at (all-at p (take n l) i 0 a (omega (arith, length-first n l h)))
+
+pub passes-first : (p : ℕ → Bool) (n : ℕ) (l : List ℕ) → n ≤ length l → ((i : ℕ) → i < n → p (getD l i 0) ≡ true) → all p (take n l) ≡ true
+passes-first p n l h k = all-by-at p 0 (take n l) (λ i m. let q : i < n = omega (arith, length-first n l h) in rw (getD-first n l i q) (k i q))
+
+-- the written place is in range
+pub written-in : (g : Geometry) (p : Place) (k lpn : ℕ) → p .count < 64 → badId (p .id) ≡ false → length (p .lpns) ≡ 64 → length (p .ppns) ≡ 64 → lpn < g .logical
+    → (p .count ≢ 0 → dataPage g k ≡ true) → PlaceIn g p → PlaceIn g (written p k lpn)
+unfolding written
+written-in g p k lpn room name ll lp low page h = record {
+  few = omega arith;
+  name = inl name;
+  lpns = passes-first (λ (l : ℕ). ltb l (g .logical)) (p .count + 1) (set (p .lpns) (p .count) lpn) (omega (arith, length-set (p .lpns) (p .count) lpn)) (λ i l. lpn-at i l (eqb-cases i (p .count)));
+  ppns = passes-first (dataPage g) (p .count + 1 - 1) _ (omega (arith, long (eqb (p .count) 0))) (λ i l. ppn-at i l (eqb-cases (suc i) (p .count)));
+}
+  where
+    long : (t : Bool) → length (cond t (p .ppns) (set (p .ppns) (p .count - 1) k)) ≡ 64
+    long true = lp
+    long false = length-set (p .ppns) (p .count - 1) k ∙ lp
+
+    lpn-at : (i : ℕ) → i < p .count + 1 → Is i (p .count) → ltb (getD (set (p .lpns) (p .count) lpn) i 0) (g .logical) ≡ true
+    lpn-at i l (inl q) = rw (q .0, getD-set-same (p .lpns) (p .count) lpn 0 (omega arith)) (lt-ltb lpn (g .logical) low)
+    lpn-at i l (inr q) = rw (getD-set-other (p .lpns) (p .count) i lpn 0 (q .0)) (first-passes (λ (l : ℕ). ltb l (g .logical)) (p .count) (p .lpns) (omega arith) (h .lpns) i (omega (arith, q .0)))
+
+    ppn-at : (i : ℕ) → i < p .count + 1 - 1 → Is (suc i) (p .count) → dataPage g (getD (cond (eqb (p .count) 0) (p .ppns) (set (p .ppns) (p .count - 1) k)) i 0) ≡ true
+    ppn-at i l (inl q) =
+        let n : p .count ≢ 0 = λ z. absurd (omega (arith, q .0)) in
+        let e : p .count - 1 ≡ i = omega (arith, q .0) in
+        rw (ne-eqb (p .count) 0 n, e, getD-set-same (p .ppns) i k 0 (omega arith)) (page n)
+    ppn-at i l (inr q) =
+        let n : p .count ≢ 0 = λ z. absurd (omega arith) in
+        rw (ne-eqb (p .count) 0 n, getD-set-other (p .ppns) (p .count - 1) i k 0 (λ e. absurd (omega (arith, q .0)))) (first-passes (dataPage g) (p .count - 1) (p .ppns) (omega arith) (h .ppns) i (omega (arith, q .0)))
+
+-- ---- the plan
+pub record WritesTo (w : World) (id lpn : ℕ) (d : List ℕ) (p : Plan) : Type 0 where
+  pub idle : isIdle (w .state .work) ≡ true
+  pub long : length d ≡ 512
+  pub low : lpn < w .state .geometry .logical
+  pub begun : leb 8 (placeOf (w .state .places) id) ≡ false
+  pub room : placeAt (w .state .places) (placeOf (w .state .places) id) .count < 64
+  pub clean : placeAt (w .state .places) (placeOf (w .state .places) id) .count ≢ 0 → zoneShort w ≡ false
+  pub is : p ≡ writePlan (placeOf (w .state .places) id) (placeAt (w .state .places) (placeOf (w .state .places) id)) lpn d w
+
+pub write-view : (id lpn : ℕ) (d : List ℕ) (w : World) → View w (WritesTo w id lpn d) (planWrite id lpn d w)
+unfolding planWrite refused
+write-view id lpn d w =
+    let i = placeOf (w .state .places) id in
+    let p = placeAt (w .state .places) i in
+    view-gate w (WritesTo w id lpn d) false _ (λ f o.
+    view-test w (WritesTo w id lpn d) (not (eqb (length d) 512)) 11 _ refl (λ a.
+    view-test w (WritesTo w id lpn d) (leb (w .state .geometry .logical) lpn) 5 _ refl (λ c.
+    view-test w (WritesTo w id lpn d) (leb 8 i) 8 _ refl (λ e.
+    view-test w (WritesTo w id lpn d) (leb longestChange (p .count)) 10 _ refl (λ z.
+    view-test w (WritesTo w id lpn d) (not (eqb (p .count) 0) && zoneShort w) 12 _ refl (λ y.
+    yes _ (record {
+      idle = idle-only (isIdle (w .state .work)) o;
+      long = eqb-true (length d) 512 (not-false (eqb (length d) 512) a);
+      low = leb-false (w .state .geometry .logical) lpn c;
+      begun = e;
+      room = leb-false 64 (p .count) z;
+      clean = λ n. let t : not (eqb (p .count) 0) ≡ true = ap not (ne-eqb (p .count) 0 n) in rw t at y;
+      is = refl;
+    })))))))
+
+-- ---- the world with the page held, and perhaps one programmed
+module _ (w : World) (b : Book) (h : Live w b) (id lpn : ℕ) (d : List ℕ) (idle : isIdle (w .state .work) ≡ true) (long : length d ≡ 512) (small : Bytes d)
+    (low : lpn < w .state .geometry .logical) (i : ℕ) (f : Found (w .state .places) id i) (room : placeAt (w .state .places) i .count < 64) where
+  abbrev g : Geometry
+  g = w .state .geometry
+
+  abbrev ps : List Place
+  ps = w .state .places
+
+  abbrev p : Place
+  p = placeAt ps i
+
+  abbrev x : Write
+  x = record { lpn = lpn; bytes = d }
+
+  low8 : i < 8
+  low8 = omega (arith, f .low, h .changing .eight)
+
+  some : p .id ≢ 0
+  some q = f .some (sym (f .is) ∙ q)
+
+  named : badId (p .id) ≡ false
+  named = pick (place-in g p (h .places .ok i (f .low)) .name)
+    where
+      pick : (badId (p .id) ≡ false) ⊎ ((p .id ≡ 0) × (p .count ≡ 0)) → badId (p .id) ≡ false
+      pick (inl e) = e
+      pick (inr e) = absurd (some (e .0))
+
+  own : Writes (w .array) (w .map) (w .hold) i p (writesOf id (b .changes))
+  own = subst (λ (n : ℕ). Writes (w .array) (w .map) (w .hold) i p (writesOf n (b .changes))) (f .is) (h .changing .writes i low8 some)
+
+  -- ys is the array after it, es its scan
+  module _ (ys : List ℕ) (es : List Entry) (k : ℕ) (sound : Sound g ys (h .saved) (w .map) (w .state .version) (b .pages)) (tidy : Tidy g ys (w .state .zones))
+      (scan : scanOf ys (g .pages) (w .state .zones) ≡ es) (front : SameFront (w .array) ys (g .pages)) (same : WholeSame (w .array) ys)
+      (mine : Open (written p k lpn) es) (others : (j : ℕ) → j < length ps → j ≢ i → placeAt ps j .id ≢ 0 → ofId (placeAt ps j .id) es ≡ ofId (placeAt ps j .id) (scanned w))
+      (page : p .count ≢ 0 → dataPage g k ≡ true) (new : Writes ys (w .map) (holdWith (w .hold) i d) i (written p k lpn) (writesOf id (b .changes) ++ (x ∷ []))) where
+    abbrev q : Place
+    q = written p k lpn
+
+    abbrev then : World
+    then = record { array = ys; map = w .map; hold = holdWith (w .hold) i d; state = withPlace (w .state) i q }
+
+    abbrev told : Book
+    told = record { pages = b .pages; changes = addTo id x (b .changes) }
+
+    q-id : q .id ≡ id
+    unfolding written
+    q-id = f .is
+
+    at-own : placeAt (set ps i q) i ≡ q
+    at-own = getD-set-same ps i q noPlace (f .low)
+
+    at-other : (j : ℕ) → j ≢ i → placeAt (set ps i q) j ≡ placeAt ps j
+    at-other j n = getD-set-other ps i j q noPlace n
+
+    apart : (j : ℕ) → j < 8 → j ≢ i → placeAt ps j .id ≢ id
+    apart j l n = found-apart w b id i h f j (omega (arith, h .changing .eight)) n
+
+    open-id : isOpen id (b .changes) ≡ true
+    open-id = subst (λ (n : ℕ). isOpen n (b .changes) ≡ true) (f .is) (h .changing .opened i low8 some)
+
+    grew : writesOf (q .id) (told .changes) ≡ writesOf id (b .changes) ++ (x ∷ [])
+    grew = ap (λ (n : ℕ). writesOf n (told .changes)) q-id ∙ add-own id x (b .changes) open-id
+
+    writes-at : (j : ℕ) → j < 8 → placeAt (set ps i q) j .id ≢ 0 → Is j i → Writes ys (w .map) (holdWith (w .hold) i d) j (placeAt (set ps i q) j) (writesOf (placeAt (set ps i q) j .id) (told .changes))
+    writes-at j l z (inl e) = rw (e .0, at-own, grew) new
+    writes-at j l z (inr e) =
+        let n : placeAt ps j .id ≢ 0 = rw (at-other j (e .0)) at z in
+        rw (at-other j (e .0), add-other id x (placeAt ps j .id) (b .changes) (apart j l (e .0)))
+        (writes-keep (w .array) ys (w .map) (w .map) (w .hold) (holdWith (w .hold) i d) j (placeAt ps j) _ same (λ y c a. a .free) (hold-other (w .hold) i d (h .hold) low8 long j (e .0)) (h .changing .writes j l n))
+
+    opened-at : (j : ℕ) → j < 8 → placeAt (set ps i q) j .id ≢ 0 → Is j i → isOpen (placeAt (set ps i q) j .id) (told .changes) ≡ true
+    opened-at j l z (inl e) = rw (e .0, at-own, q-id, add-open id x id (b .changes)) open-id
+    opened-at j l z (inr e) =
+        let n : placeAt ps j .id ≢ 0 = rw (at-other j (e .0)) at z in
+        rw (at-other j (e .0), add-open id x (placeAt ps j .id) (b .changes)) (h .changing .opened j l n)
+
+    closed-at : (y : ℕ) → y ≢ 0 → ((j : ℕ) → j < 8 → placeAt (set ps i q) j .id ≢ y) → isOpen y (told .changes) ≡ false
+    closed-at y n c = rw (add-open id x y (b .changes)) (h .changing .closed y n (λ j l. other j l (eqb-cases j i)))
+      where
+        other : (j : ℕ) → j < 8 → Is j i → placeAt ps j .id ≢ y
+        other j l (inl e) = λ r. c i low8 (ap (λ (t : Place). t .id) at-own ∙ q-id ∙ sym (f .is) ∙ ap (λ (m : ℕ). placeAt ps m .id) (sym (e .0)) ∙ r)
+        other j l (inr e) = rw (at-other j (e .0)) at (c j l)
+
+    pub held-live : Live then told
+    unfolding withPlace
+    held-live = record {
+      saved = h .saved;
+      sound = sound;
+      kept = kept-away w then (h .saved) (h .kept) (idle-calm (w .state .work) idle) (idle-calm (w .state .work) idle)
+          (record { geometry = refl; checkpoint = refl; front = refl; first = refl }) front;
+      grown = h .grown;
+      tidy = tidy;
+      number = h .number;
+      hold = hold-long (w .hold) i d (h .hold) low8 long;
+      places = places-set g ps i q (h .places) (in-place g q (written-in g p k lpn room named (own .lpns) (own .ppns) low page (place-in g p (h .places .ok i (f .low)))))
+          (λ z j l n. rw q-id (found-apart w b id i h f j l n));
+      opens = rw scan (opens-set ps (scanned w) es i q (h .opens) (λ z. mine) others);
+      changing = record {
+        eight = length-set ps i q ∙ h .changing .eight;
+        writes = λ j l z. writes-at j l z (eqb-cases j i);
+        opened = λ j l z. opened-at j l z (eqb-cases j i);
+        closed = closed-at;
+      };
+    }
+
+  -- the first write: nothing is programmed
+  first-live : (k : ℕ) → p .count ≡ 0 → Live (record { array = w .array; map = w .map; hold = holdWith (w .hold) i d; state = withPlace (w .state) i (written p k lpn) })
+      (record { pages = b .pages; changes = addTo id x (b .changes) })
+  first-live k z = held-live (w .array) (scanned w) k (h .sound) (h .tidy) refl (λ j l. refl) (λ j l. refl)
+      (open-first p (scanned w) (h .opens i (f .low) some) k lpn z) (λ j l n m. refl) (λ n. absurd (n z))
+      (writes-more (w .array) (w .array) (w .map) (w .hold) (holdWith (w .hold) i d) i p (writesOf id (b .changes)) k lpn d own (λ j l. refl) room
+      (hold-own (w .hold) i d (h .hold) low8 long) small (λ n. absurd (n z)) (λ n. absurd (n z)))
+
+  -- a later one: the page held before is programmed
+  module _ (many : p .count ≢ 0) (short : zoneShort w ≡ false) where
+    inside : PlaceIn g p
+    inside = place-in g p (h .places .ok i (f .low))
+
+    pub held-low : heldPage p < g .logical
+    held-low = ltb-true (heldPage p) (g .logical) (first-passes (λ (l : ℕ). ltb l (g .logical)) (p .count) (p .lpns) (omega (arith, own .lpns, inside .few)) (inside .lpns) (p .count - 1) (omega arith))
+
+    pub held-name : p .id ≢ 4294967295
+    held-name = good-name (p .id) named
+
+    abbrev pub pageSpare : Spare
+    pageSpare = record { lpn = heldPage p; cnt = 0; id = p .id; ver = 0; kind = 0; reserved = 0 }
+
+    pub page-fits : SpareFits pageSpare
+    page-fits = record { lpn = omega (arith, held-low, live-range w b h .logical-most); cnt = omega arith; id = own .small; ver = omega arith; kind = omega arith; reserved = omega arith }
+
+    abbrev pub pageData : List ℕ
+    pageData = heldAt i (w .hold)
+
+    pub data-long : length pageData ≡ 512
+    data-long = held-long (w .hold) i (h .hold) low8
+
+    pub data-small : Bytes pageData
+    data-small = own .bytes (omega (arith, some-count))
+      where
+        some-count : 0 < p .count
+        some-count = omega arith
+
+    pub clean : 0 < cleanPages w
+    clean = room-clean w b h short
+
+    abbrev k : ℕ
+    k = nextPage w
+
+    abbrev ys : List ℕ
+    ys = appended w b h clean pageData pageSpare data-long data-small page-fits
+
+    abbrev es : List Entry
+    es = scanned w ++ (openEntry (p .id) k (heldPage p) ∷ [])
+
+    same-entry : entryOf k pageSpare ≡ openEntry (p .id) k (heldPage p)
+    unfolding entryOf
+    same-entry = refl
+
+    logged : Logged (g .logical) (h .saved .version) (h .saved .map) (scanned w ++ (entryOf k pageSpare ∷ [])) (w .map) (w .state .version)
+    unfolding entryOf
+    logged = logged-page (g .logical) (h .saved .version) (h .saved .map) (scanned w) (w .map) (w .state .version) (live-logged w b h) _
+        (record { kind = refl; reserved = refl; lpn = held-low; id = held-name; ver = λ q. absurd (omega (arith, q)) }) some refl refl (open-noMark p (scanned w) (h .opens i (f .low) some))
+
+    more-live : Live (record { array = ys; map = w .map; hold = holdWith (w .hold) i d; state = withPlace (w .state) i (written p k lpn) })
+        (record { pages = b .pages; changes = addTo id x (b .changes) })
+    more-live = held-live ys es k
+        (append-sound w b h clean pageData pageSpare data-long data-small page-fits (w .map) (w .state .version) (b .pages) logged (h .sound .good) (h .sound .wide)
+        (append-contents w b h clean pageData pageSpare data-long data-small page-fits) (h .sound .last))
+        (append-tidy w b h clean pageData pageSpare data-long data-small page-fits)
+        (append-scan w b h clean pageData pageSpare data-long data-small page-fits ∙ ap (λ (e : Entry). scanned w ++ (e ∷ [])) same-entry)
+        (append-front w b h clean pageData pageSpare data-long data-small page-fits)
+        (append-keeps w b h clean pageData pageSpare data-long data-small page-fits)
+        (open-more p (scanned w) (h .opens i (f .low) some) k lpn many (omega (arith, own .ppns, inside .few)))
+        (λ j l n m. ofId-other (placeAt ps j .id) (scanned w) _ (λ q. h .places .apart i j (f .low) l (λ r. n (sym r)) some (sym q)))
+        (λ n. next-is-data w b h clean pageData pageSpare data-long data-small page-fits)
+        (writes-more (w .array) ys (w .map) (w .hold) (holdWith (w .hold) i d) i p (writesOf id (b .changes)) k lpn d own
+        (append-keeps w b h clean pageData pageSpare data-long data-small page-fits) room (hold-own (w .hold) i d (h .hold) low8 long) small
+        (λ n. record {
+          whole = append-whole w b h clean pageData pageSpare data-long data-small page-fits;
+          bytes = append-data w b h clean pageData pageSpare data-long data-small page-fits;
+          owner = ap (λ (s : Spare). s .id) (append-spare w b h clean pageData pageSpare data-long data-small page-fits);
+          free = next-free w b h clean pageData pageSpare data-long data-small page-fits;
+        })
+        (λ n. next-blank w b h clean pageData pageSpare data-long data-small page-fits))
+
+  pub write-live : (p .count ≢ 0 → zoneShort w ≡ false) → Live (carried (writePlan i p lpn d w) w .world) (record { pages = b .pages; changes = addTo id x (b .changes) })
+  unfolding carried writePlan heldOp applyOp dataBytes withPlace
+  write-live short = go (eqb-cases (p .count) 0)
+    where
+      go : Is (p .count) 0 → Live (record {
+        array = applyOp (g .pages) (cond (eqb (p .count) 0) none (program (nextPage w) (dataBytes (heldAt i (w .hold)) (heldPage p) 0 (p .id) 0))) (w .array);
+        map = w .map;
+        hold = holdWith (w .hold) i d;
+        state = withPlace (w .state) i (written p (nextPage w) lpn);
+      }) (record { pages = b .pages; changes = addTo id x (b .changes) })
+      go (inl q) = rw (q .1) (first-live (nextPage w) (q .0))
+      go (inr q) = rw (q .1) (more-live (q .0) (short (q .0)))
+
+pub write-keeps : (w : World) (b : Book) (id lpn : ℕ) (d : List ℕ) → Live w b → fits (write id lpn d) ≡ true → Keeps (write id lpn d) w b
+unfolding plan fits
+write-keeps w b id lpn d h f = view-keeps (write id lpn d) w b (WritesTo w id lpn d) h (write-view id lpn d w) (λ p e v.
+    done-live (write id lpn d) w b p e (unfold writePlan in rw (v .is)) (rw (v .is) (unfold entering changing in
+    write-live w b h id lpn d (v .idle) (v .long) (bytes-true d (and-right (ltb lpn 65536) (bytes d) (and-right (ltb id 4294967296) _ f))) (v .low)
+    (placeOf (w .state .places) id) (place-found (w .state .places) id (h .changing .eight) (v .begun)) (v .room) (v .clean))))
