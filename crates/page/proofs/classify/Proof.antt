@@ -1,7 +1,7 @@
 -- `page::classify` meets its contract: each return by the tests on its path. Assumes nothing.
+use mathlib.Core.Path.{sym, _∙_}
 use borrow.Author.Needs.{needs}
 use borrow.Author.Tests.{eq-eqb, ne-eqb}
-use mathlib.Core.Path.{sym, _∙_}
 use Rattle.model.specs.Page.{classOf}
 use Rattle.page.proofs.classify.Statement.{statement}
 use Rattle.page.proofs.classify.Tie as tie

@@ -2,10 +2,10 @@
 use mathlib.Core.Path.{_≡_, refl, sym, ap, _∙_}
 use Prim.Native.Nat.{ℕ, _≤_, _<_, _-_, _+_, _*_}
 use native.Mathlib.Omega.{arith}
-use borrow.Author.Needs.{needs}
 use lib.ListN.{length, drop, getD, drop-of-length-le}
-use Rattle.page.proofs.Words.{ff64, not64}
+use borrow.Author.Needs.{needs}
 use Rattle.model.specs.Bytes.{allFF}
+use Rattle.page.proofs.Words.{ff64, not64}
 use Rattle.page.proofs.erased.Statement.{statement}
 use Rattle.page.proofs.erased.Tie as tie
 

@@ -1,7 +1,7 @@
 -- `page::program` meets its contract: the stores of its calls are the page's bytes, by `Storing`. Assumes nothing.
-use borrow.Author.Needs.{needs}
-use native.Mathlib.Omega.{arith}
 use mathlib.Core.Path.{refl}
+use native.Mathlib.Omega.{arith}
+use borrow.Author.Needs.{needs}
 use Rattle.model.specs.Page.{pageBytes, spareBytes}
 use Rattle.page.proofs.Storing.{steps}
 use Rattle.page.proofs.program.Statement.{statement}

@@ -1,8 +1,8 @@
 -- `page::put16` meets its contract: two stores, one after the other. Assumes nothing.
-use borrow.Author.Needs.{needs}
 use native.Mathlib.Omega.{arith}
 use native.Mathlib.Numerals.{add-one}
 use lib.ListN.{length-set}
+use borrow.Author.Needs.{needs}
 use Rattle.page.proofs.put16.Statement.{statement}
 use Rattle.page.proofs.put16.Tie as tie
 

@@ -1,8 +1,8 @@
 -- `page::put32` meets its contract: four stores, one after the other. Assumes nothing.
-use borrow.Author.Needs.{needs}
 use native.Mathlib.Omega.{arith}
 use native.Mathlib.Numerals.{towards-suc}
 use lib.ListN.{length-set}
+use borrow.Author.Needs.{needs}
 use Rattle.page.proofs.put32.Statement.{statement}
 use Rattle.page.proofs.put32.Tie as tie
 

@@ -1,7 +1,7 @@
 -- `page::put_spare` meets its contract: the stores of its calls, one after the other. Assumes nothing.
-use borrow.Author.Needs.{needs}
 use native.Mathlib.Omega.{arith}
 use lib.ListN.{length-set}
+use borrow.Author.Needs.{needs}
 use Rattle.page.proofs.put_spare.Statement.{statement}
 use Rattle.page.proofs.put_spare.Tie as tie
 

@@ -2,9 +2,9 @@
 use mathlib.Core.Path.{_≡_, refl, sym, ap, _∙_}
 use Prim.Native.Nat.{ℕ, _≤_, _<_, _-_, _+_, _*_}
 use native.Mathlib.Omega.{arith}
-use borrow.Author.Needs.{needs}
 use lib.ListN.{length, take, getD}
 use lib.Count.{ones, ones-le}
+use borrow.Author.Needs.{needs}
 use Rattle.model.specs.Bytes.{zeroBits}
 use Rattle.page.proofs.Words.{zeroBits-take, more16, more32, more64}
 use Rattle.page.proofs.zeros.Statement.{statement}
