@@ -9,7 +9,8 @@ use native.Mathlib.Numerals.{add-one}
 use lib.ListN.{length, take, drop, getD, length-take}
 use lib.Seq.{take-suc, drop-cons}
 use lib.Dec.{eqb}
-use borrow.Author.Tests.{eqb-true, ne-eqb}
+use lib.Bits.{bitAnd, and-le-l, and-le-r, and-self}
+use borrow.Author.Tests.{eqb-true, eqb-false, eq-eqb, ne-eqb}
 use lib.Count.{ones, ones-le, ones-cat}
 use Rattle.model.specs.Bytes.{zeroBits, allFF, le16, le32}
 use Rattle.page.specs.Words.{le64}
@@ -124,3 +125,25 @@ module _ (a : List ℕ) where
       go : (b : Bool) → allFF (drop i a) ≡ b → allFF (drop i a) ≡ false
       go true e = absurd (n (next64 i h e))
       go false e = e
+
+-- ---- all words at once: c is what the words before place i have in common
+module _ (a : List ℕ) (byte : (k : ℕ) → getD a k 0 < 256) where
+  pub common64 : (c i : ℕ) → c ≤ 18446744073709551615 → i + 8 ≤ length a
+      → cond (eqb c 18446744073709551615) (allFF (drop i a)) false ≡ cond (eqb (bitAnd c (le64 a i)) 18446744073709551615) (allFF (drop (i + 8) a)) false
+  common64 c i l h = go (eqb c 18446744073709551615) (eqb (le64 a i) 18446744073709551615) refl refl
+    where
+      go : (s t : Bool) → eqb c 18446744073709551615 ≡ s → eqb (le64 a i) 18446744073709551615 ≡ t
+          → cond (eqb c 18446744073709551615) (allFF (drop i a)) false ≡ cond (eqb (bitAnd c (le64 a i)) 18446744073709551615) (allFF (drop (i + 8) a)) false
+      go true true es et =
+          let ec = eqb-true c 18446744073709551615 es in
+          let ex = eqb-true (le64 a i) 18446744073709551615 et in
+          let e : bitAnd c (le64 a i) ≡ 18446744073709551615 = ap (bitAnd c) (ex ∙ sym ec) ∙ and-self c ∙ ec in
+          rw (es, eq-eqb (bitAnd c (le64 a i)) 18446744073709551615 e) (ff64 a byte i h ex)
+      go true false es et =
+          let n = eqb-false (le64 a i) 18446744073709551615 et in
+          let m : bitAnd c (le64 a i) ≡ 18446744073709551615 → ⊥ = λ e. n (omega (arith, and-le-r c (le64 a i), le32-lt a byte i, le32-lt a byte (i + 4))) in
+          rw (es, ne-eqb (bitAnd c (le64 a i)) 18446744073709551615 m) (not64 a i h n)
+      go false t es et =
+          let n = eqb-false c 18446744073709551615 es in
+          let m : bitAnd c (le64 a i) ≡ 18446744073709551615 → ⊥ = λ e. n (omega (arith, and-le-l c (le64 a i))) in
+          rw (es, ne-eqb (bitAnd c (le64 a i)) 18446744073709551615 m)

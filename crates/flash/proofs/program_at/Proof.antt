@@ -9,11 +9,11 @@ use Rattle.flash.proofs.Programming.{length-bytes, programmed}
 use Rattle.flash.proofs.program_at.Statement.{statement}
 use Rattle.flash.proofs.program_at.Tie as tie
 
-mul-a : tie.Need-mul-a
-mul-a c = search needs
+mul-start : tie.Need-mul-start
+mul-start c = search needs
 
-add-e : tie.Need-add-e
-add-e c = search needs
+add-end : tie.Need-add-end
+add-end c = search needs
 
 sub-program : tie.Need-sub-program
 sub-program c = search needs
@@ -42,8 +42,8 @@ pub program-at-spec : {M : Type 1} → statement M
 program-at-spec =
     tie.close
     (tie.spec
-    mul-a
-    add-e
+    mul-start
+    add-end
     sub-program
     part-program-start
     part-program-end
