@@ -1,9 +1,9 @@
 -- Counting and testing several bytes at a time: the zero bits of a word are those of its bytes, and a word has no zero bit
 -- exactly where each of its bytes is 0xFF. Assumes nothing.
 use mathlib.Core.Path.{_≡_, refl, sym, ap, _∙_}
-use mathlib.Core.List.{List, [], _∷_, _++_}
+use mathlib.Core.List.{List}
 use mathlib.Core.Bool.{Bool, true, false, cond}
-use Prim.Native.Nat.{ℕ, zero, suc, _+_, _-_, _*_, _≤_, _<_}
+use Prim.Native.Nat.{ℕ, suc, _+_, _-_, _*_, _≤_, _<_}
 use native.Mathlib.Omega.{arith}
 use native.Mathlib.Numerals.{add-one}
 use lib.ListN.{length, take, drop, getD, length-take}
@@ -13,19 +13,11 @@ use lib.Bits.{bitAnd, and-le-l, and-le-r, and-self}
 use borrow.Author.Tests.{eqb-true, eqb-false, eq-eqb, ne-eqb}
 use lib.Count.{ones, ones-le, ones-cat}
 use Rattle.model.specs.Bytes.{zeroBits, allFF, le16, le32}
+use Rattle.arrays.specs.Tests.{not-so}
+use Rattle.arrays.specs.Bytelist.{zeroBits-append, zeroBits-le}
 use Rattle.page.specs.Words.{le64}
 
 -- ---- zero bits
-zeroBits-append : (a b : List ℕ) → zeroBits (a ++ b) ≡ zeroBits a + zeroBits b
-unfolding zeroBits
-zeroBits-append [] b = omega arith
-zeroBits-append (x ∷ a) b = omega (arith, zeroBits-append a b)
-
-zeroBits-le : (a : List ℕ) → zeroBits a ≤ 8 * length a
-unfolding zeroBits
-zeroBits-le [] = omega arith
-zeroBits-le (x ∷ a) = omega (arith, zeroBits-le a)
-
 -- the first i bytes have at most 8 * i
 pub zeroBits-take : (i : ℕ) (a : List ℕ) → zeroBits (take i a) ≤ 8 * i
 zeroBits-take i a = omega (arith, zeroBits-le (take i a), length-take i a)
@@ -120,11 +112,7 @@ module _ (a : List ℕ) where
       omega arith
 
   pub not64 : (i : ℕ) → i + 8 ≤ length a → (le64 a i ≡ 18446744073709551615 → ⊥) → allFF (drop i a) ≡ false
-  not64 i h n = go (allFF (drop i a)) refl
-    where
-      go : (b : Bool) → allFF (drop i a) ≡ b → allFF (drop i a) ≡ false
-      go true e = absurd (n (next64 i h e))
-      go false e = e
+  not64 i h n = not-so (allFF (drop i a)) (λ e. n (next64 i h e))
 
 -- ---- all words at once: c is what the words before place i have in common
 module _ (a : List ℕ) (byte : (k : ℕ) → getD a k 0 < 256) where

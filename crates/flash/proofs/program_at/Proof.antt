@@ -5,7 +5,8 @@ use lib.Seq.{drop-drop}
 use borrow.Author.Needs.{needs}
 use Rattle.model.specs.Lists.{splice}
 use Rattle.model.specs.Page.{pageBytes, putPage}
-use Rattle.flash.proofs.Programming.{length-bytes, programmed}
+use Rattle.arrays.specs.Image.{image-length}
+use Rattle.flash.proofs.Programming.{programmed}
 use Rattle.flash.proofs.program_at.Statement.{statement}
 use Rattle.flash.proofs.program_at.Tie as tie
 
@@ -34,7 +35,7 @@ returns : tie.Need-returns
 unfolding putPage splice
 returns c =
     let a = c .before .before .before .before .before .before .args in
-    programmed (a .array .now) (a .k) (pageBytes (a .«data» .now) (a .s)) _ (omega arith) (length-bytes (a .«data» .now) (a .s) (omega arith))
+    programmed (a .array .now) (a .k) (pageBytes (a .«data» .now) (a .s)) _ (omega arith) (image-length (a .«data» .now) (a .s) (omega arith))
     (rw (add-sub-cancel-left, c .before .before .program .ensures, drop-drop))
     (λ i. c .slice-known2 .given i .fits)
 

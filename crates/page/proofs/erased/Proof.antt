@@ -2,12 +2,11 @@
 -- and of the bytes from word `w` on. Assumes nothing.
 use mathlib.Core.Path.{_≡_, refl, sym, ap, _∙_}
 use mathlib.Core.Bool.{Bool, true, false, cond}
-use Prim.Native.Nat.{ℕ, _≤_, _<_, _-_, _+_, _*_}
+use Prim.Native.Nat.{_≤_, _-_, _+_, _*_}
 use native.Mathlib.Omega.{arith}
-use lib.ListN.{length, drop, getD, drop-of-length-le}
+use lib.ListN.{length, drop, drop-of-length-le}
 use lib.Dec.{eqb}
 use lib.Bits.{and-le-l}
-use borrow.Author.Needs.{needs}
 use Rattle.model.specs.Bytes.{allFF}
 use Rattle.page.proofs.Words.{not64, common64}
 use Rattle.page.proofs.erased.Statement.{statement}

@@ -1,0 +1,13 @@
+pub mod Tests
+pub mod Bits
+pub mod Bytelist
+pub mod Splice
+pub mod Pages
+pub mod Ranges
+pub mod Ops
+pub mod Image
+pub mod Whole
+pub mod Arrays
+pub mod Used
+pub mod Scan
+pub mod Examples
