@@ -6,7 +6,7 @@ use std::time::Instant;
 const PAGE: usize = 528;
 const BLOCK: usize = 64 * PAGE;
 const PAGES: usize = 7936; // 124 blocks of 64 pages: 4.19 MB
-const ROUNDS: usize = 41;
+const ROUNDS: usize = 301;
 
 extern "C" {
     fn pageffi_class(page: *const u8, len: usize) -> u8;
