@@ -1,26 +1,14 @@
--- Looking for the last page of a block that is not erased, and for the clean pages of blocks: what a turn of each loop shows. Assumes nothing.
-use mathlib.Core.Path.{_≡_, refl, sym, ap, _∙_}
-use mathlib.Core.Bool.{Bool, true, false}
-use mathlib.Core.List.{List, [], _∷_}
-use Prim.Native.Nat.{ℕ, zero, suc, _+_, _-_, _*_, _≤_, _<_}
-use native.Mathlib.Omega.{arith}
+-- Looking for the clean pages of blocks: what a turn of each loop shows. Assumes nothing.
+use mathlib.Core.Path.{_≡_}
+use mathlib.Core.List.{List}
+use Prim.Native.Nat.{ℕ, _+_, _-_, _*_, _≤_, _<_}
 use native.Mathlib.Numerals.{add-one}
 use lib.ListN.{length, drop, getD}
 use lib.Seq.{drop-cons}
 use borrow.Author.Tests.{lt-ltb, le-ltb}
-use Rattle.model.specs.Page.{blankAt, usedFrom}
 use Rattle.model.specs.Zones.{usedIn, cleanIn, nextIn}
 
--- ---- the pages from page k on, of which the last of n + 1 is looked at
-pub used-more : (xs : List ℕ) (k n : ℕ) → blankAt xs (k + n) ≡ true → usedFrom xs k (suc n) ≡ usedFrom xs k n
-unfolding usedFrom
-used-more xs k n e = rw e
-
-pub used-here : (xs : List ℕ) (k n : ℕ) → blankAt xs (k + n) ≡ false → usedFrom xs k (suc n) ≡ suc n
-unfolding usedFrom
-used-here xs k n e = rw e
-
--- ---- the blocks from the i-th on
+-- the blocks from the i-th on
 module _ (xs : List ℕ) (p : ℕ) (bs : List ℕ) (i : ℕ) (h : i < length bs) where
   pub clean-more : cleanIn xs p (drop i bs) ≡ (p - usedIn xs p (getD bs i 0)) + cleanIn xs p (drop (i + 1) bs)
   unfolding cleanIn

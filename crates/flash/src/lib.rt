@@ -61,9 +61,9 @@ pub fn program_at(array: &mut [u8], k: usize, data: &[u8], s: Spare)
     requires { ⌜ (k * 528 + 528 ≤ length (now array)) × (length (now «data») ≡ 512) ⌝ }
     ensures { λ _. ⌜ Programmed (now (array .entry)) k (pageBytes (now («data» .entry)) s) (now (array .exit)) ⌝ }
 {
-    let a = k * Spare::PAGE;
-    let e = a + Spare::PAGE;
-    page::program(&mut array[a..e], data, s);
+    let start = k * Spare::PAGE;
+    let end = start + Spare::PAGE;
+    page::program(&mut array[start..end], data, s);
 }
 
 /// Erases block b of `pages` pages.
@@ -71,9 +71,9 @@ pub fn erase_block(array: &mut [u8], pages: usize, b: usize)
     requires { ⌜ b * pages * 528 + pages * 528 ≤ length (now array) ⌝ }
     ensures { λ _. ⌜ now (array .exit) ≡ applyOp pages (erase b) (now (array .entry)) ⌝ }
 {
-    let a = b * pages * Spare::PAGE;
-    let e = a + pages * Spare::PAGE;
-    page::erase(&mut array[a..e]);
+    let start = b * pages * Spare::PAGE;
+    let end = start + pages * Spare::PAGE;
+    page::erase(&mut array[start..end]);
 }
 
 /// The pages of block b up to and with its last that is not erased: the clean ones come after.

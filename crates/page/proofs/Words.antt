@@ -1,30 +1,23 @@
 -- Counting and testing several bytes at a time: the zero bits of a word are those of its bytes, and a word has no zero bit
 -- exactly where each of its bytes is 0xFF. Assumes nothing.
 use mathlib.Core.Path.{_≡_, refl, sym, ap, _∙_}
-use mathlib.Core.List.{List, [], _∷_, _++_}
+use mathlib.Core.List.{List}
 use mathlib.Core.Bool.{Bool, true, false, cond}
-use Prim.Native.Nat.{ℕ, zero, suc, _+_, _-_, _*_, _≤_, _<_}
+use Prim.Native.Nat.{ℕ, suc, _+_, _-_, _*_, _≤_, _<_}
 use native.Mathlib.Omega.{arith}
 use native.Mathlib.Numerals.{add-one}
 use lib.ListN.{length, take, drop, getD, length-take}
 use lib.Seq.{take-suc, drop-cons}
 use lib.Dec.{eqb}
-use borrow.Author.Tests.{eqb-true, ne-eqb}
+use lib.Bits.{bitAnd, and-le-l, and-le-r, and-self}
+use borrow.Author.Tests.{eqb-true, eqb-false, eq-eqb, ne-eqb}
 use lib.Count.{ones, ones-le, ones-cat}
 use Rattle.model.specs.Bytes.{zeroBits, allFF, le16, le32}
+use Rattle.arrays.specs.Tests.{not-so}
+use Rattle.arrays.specs.Bytelist.{zeroBits-append, zeroBits-le}
 use Rattle.page.specs.Words.{le64}
 
 -- ---- zero bits
-zeroBits-append : (a b : List ℕ) → zeroBits (a ++ b) ≡ zeroBits a + zeroBits b
-unfolding zeroBits
-zeroBits-append [] b = omega arith
-zeroBits-append (x ∷ a) b = omega (arith, zeroBits-append a b)
-
-zeroBits-le : (a : List ℕ) → zeroBits a ≤ 8 * length a
-unfolding zeroBits
-zeroBits-le [] = omega arith
-zeroBits-le (x ∷ a) = omega (arith, zeroBits-le a)
-
 -- the first i bytes have at most 8 * i
 pub zeroBits-take : (i : ℕ) (a : List ℕ) → zeroBits (take i a) ≤ 8 * i
 zeroBits-take i a = omega (arith, zeroBits-le (take i a), length-take i a)
@@ -119,8 +112,26 @@ module _ (a : List ℕ) where
       omega arith
 
   pub not64 : (i : ℕ) → i + 8 ≤ length a → (le64 a i ≡ 18446744073709551615 → ⊥) → allFF (drop i a) ≡ false
-  not64 i h n = go (allFF (drop i a)) refl
+  not64 i h n = not-so (allFF (drop i a)) (λ e. n (next64 i h e))
+
+-- ---- all words at once: c is what the words before place i have in common
+module _ (a : List ℕ) (byte : (k : ℕ) → getD a k 0 < 256) where
+  pub common64 : (c i : ℕ) → c ≤ 18446744073709551615 → i + 8 ≤ length a
+      → cond (eqb c 18446744073709551615) (allFF (drop i a)) false ≡ cond (eqb (bitAnd c (le64 a i)) 18446744073709551615) (allFF (drop (i + 8) a)) false
+  common64 c i l h = go (eqb c 18446744073709551615) (eqb (le64 a i) 18446744073709551615) refl refl
     where
-      go : (b : Bool) → allFF (drop i a) ≡ b → allFF (drop i a) ≡ false
-      go true e = absurd (n (next64 i h e))
-      go false e = e
+      go : (s t : Bool) → eqb c 18446744073709551615 ≡ s → eqb (le64 a i) 18446744073709551615 ≡ t
+          → cond (eqb c 18446744073709551615) (allFF (drop i a)) false ≡ cond (eqb (bitAnd c (le64 a i)) 18446744073709551615) (allFF (drop (i + 8) a)) false
+      go true true es et =
+          let ec = eqb-true c 18446744073709551615 es in
+          let ex = eqb-true (le64 a i) 18446744073709551615 et in
+          let e : bitAnd c (le64 a i) ≡ 18446744073709551615 = ap (bitAnd c) (ex ∙ sym ec) ∙ and-self c ∙ ec in
+          rw (es, eq-eqb (bitAnd c (le64 a i)) 18446744073709551615 e) (ff64 a byte i h ex)
+      go true false es et =
+          let n = eqb-false (le64 a i) 18446744073709551615 et in
+          let m : bitAnd c (le64 a i) ≡ 18446744073709551615 → ⊥ = λ e. n (omega (arith, and-le-r c (le64 a i), le32-lt a byte i, le32-lt a byte (i + 4))) in
+          rw (es, ne-eqb (bitAnd c (le64 a i)) 18446744073709551615 m) (not64 a i h n)
+      go false t es et =
+          let n = eqb-false c 18446744073709551615 es in
+          let m : bitAnd c (le64 a i) ≡ 18446744073709551615 → ⊥ = λ e. n (omega (arith, and-le-l c (le64 a i))) in
+          rw (es, ne-eqb (bitAnd c (le64 a i)) 18446744073709551615 m)

@@ -61,19 +61,21 @@ pub fn zeros(page: &[u8]) -> u16
     n as u16
 }
 
-/// Whether all 528 bytes are 0xFF.
+/// Whether all 528 bytes are 0xFF: the first word, then the bits that every word has.
 pub fn erased(page: &[u8]) -> bool
     requires { ⌜ length (now page) ≡ 528 ⌝ }
     ensures { λ r. ⌜ r ≡ allFF (now (page .entry)) ⌝ }
 {
+    if word64(page, 0) != 0xFFFF_FFFF_FFFF_FFFF {
+        return false;
+    }
+    let mut common: u64 = 0xFFFF_FFFF_FFFF_FFFF;
     let mut w = 0;
     while w < 66 {
-        if word64(page, w * 8) != 0xFFFF_FFFF_FFFF_FFFF {
-            return false;
-        }
+        common = common & word64(page, w * 8);
         w += 1;
     }
-    true
+    common == 0xFFFF_FFFF_FFFF_FFFF
 }
 
 /// Erased, otherwise whole if Zeros agrees, otherwise torn.

@@ -1,10 +1,9 @@
 -- `flash::clean_in` meets its contract. The loop's invariant: `n` and the clean pages of the blocks from the `i`-th on are those of all blocks. Assumes nothing.
-use mathlib.Core.Path.{_≡_, refl, sym, ap, _∙_}
+use mathlib.Core.Path.{_≡_, ap, _∙_}
 use Prim.Native.Nat.{_+_, _*_, _-_, _≤_}
 use native.Mathlib.Nat.{mul-le-mul-right}
 use native.Mathlib.Omega.{arith}
 use lib.ListN.{length, drop, drop-of-length-le}
-use borrow.Author.Needs.{needs}
 use Rattle.model.specs.Zones.{usedIn, cleanIn}
 use Rattle.flash.proofs.Scanning.{clean-more}
 use Rattle.flash.proofs.clean_in.Statement.{statement}

@@ -12,17 +12,17 @@ use Rattle.model.specs.World.{applyOp}
 use Rattle.flash.proofs.erase_block.Statement.{statement}
 use Rattle.flash.proofs.erase_block.Tie as tie
 
-mul-a : tie.Need-mul-a
-mul-a c = search needs
+mul-start : tie.Need-mul-start
+mul-start c = search needs
 
-mul-a-2 : tie.Need-mul-a-2
-mul-a-2 c = search needs
+mul-start-2 : tie.Need-mul-start-2
+mul-start-2 c = search needs
 
-mul-e : tie.Need-mul-e
-mul-e c = search needs
+mul-end : tie.Need-mul-end
+mul-end c = search needs
 
-add-e : tie.Need-add-e
-add-e c = search needs
+add-end : tie.Need-add-end
+add-end c = search needs
 
 sub-erase : tie.Need-sub-erase
 sub-erase c = search needs
@@ -52,10 +52,10 @@ pub erase-block-spec : {M : Type 1} → statement M
 erase-block-spec =
     tie.close
     (tie.spec
-    mul-a
-    mul-a-2
-    mul-e
-    add-e
+    mul-start
+    mul-start-2
+    mul-end
+    add-end
     sub-erase
     part-erase-start
     part-erase-end

@@ -1,9 +1,8 @@
 -- `flash::next_in` meets its contract. The loop's invariant: no block before the `i`-th has clean pages. Assumes nothing.
 use mathlib.Core.Path.{_≡_, refl, sym, ap, _∙_}
-use Prim.Native.Nat.{_+_, _*_, _-_, _≤_}
+use Prim.Native.Nat.{_-_, _≤_}
 use native.Mathlib.Omega.{arith}
 use lib.ListN.{length, drop, drop-of-length-le}
-use borrow.Author.Needs.{needs}
 use Rattle.model.specs.Zones.{usedIn, nextIn}
 use Rattle.flash.proofs.Scanning.{next-here, next-more}
 use Rattle.flash.proofs.next_in.Statement.{statement}

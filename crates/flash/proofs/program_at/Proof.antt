@@ -5,15 +5,16 @@ use lib.Seq.{drop-drop}
 use borrow.Author.Needs.{needs}
 use Rattle.model.specs.Lists.{splice}
 use Rattle.model.specs.Page.{pageBytes, putPage}
-use Rattle.flash.proofs.Programming.{length-bytes, programmed}
+use Rattle.arrays.specs.Image.{image-length}
+use Rattle.flash.proofs.Programming.{programmed}
 use Rattle.flash.proofs.program_at.Statement.{statement}
 use Rattle.flash.proofs.program_at.Tie as tie
 
-mul-a : tie.Need-mul-a
-mul-a c = search needs
+mul-start : tie.Need-mul-start
+mul-start c = search needs
 
-add-e : tie.Need-add-e
-add-e c = search needs
+add-end : tie.Need-add-end
+add-end c = search needs
 
 sub-program : tie.Need-sub-program
 sub-program c = search needs
@@ -34,7 +35,7 @@ returns : tie.Need-returns
 unfolding putPage splice
 returns c =
     let a = c .before .before .before .before .before .before .args in
-    programmed (a .array .now) (a .k) (pageBytes (a .«data» .now) (a .s)) _ (omega arith) (length-bytes (a .«data» .now) (a .s) (omega arith))
+    programmed (a .array .now) (a .k) (pageBytes (a .«data» .now) (a .s)) _ (omega arith) (image-length (a .«data» .now) (a .s) (omega arith))
     (rw (add-sub-cancel-left, c .before .before .program .ensures, drop-drop))
     (λ i. c .slice-known2 .given i .fits)
 
@@ -42,8 +43,8 @@ pub program-at-spec : {M : Type 1} → statement M
 program-at-spec =
     tie.close
     (tie.spec
-    mul-a
-    add-e
+    mul-start
+    add-end
     sub-program
     part-program-start
     part-program-end

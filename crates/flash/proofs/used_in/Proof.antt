@@ -2,11 +2,10 @@
 use mathlib.Core.Path.{_≡_, refl, sym, ap, _∙_}
 use Prim.Native.Nat.{suc, _*_, _-_, _≤_}
 use native.Mathlib.Omega.{arith}
-use borrow.Author.Needs.{needs}
 use borrow.Author.Tests.{not-true, not-false}
 use Rattle.model.specs.Page.{usedFrom}
 use Rattle.model.specs.Zones.{usedIn}
-use Rattle.flash.proofs.Scanning.{used-more, used-here}
+use Rattle.arrays.specs.Used.{used-clean-end, used-end}
 use Rattle.flash.proofs.used_in.Statement.{statement}
 use Rattle.flash.proofs.used_in.Tie as tie
 
@@ -38,7 +37,7 @@ returns c =
     let a = l .before .before .args in
     let n = l .loop .n in
     let e : n ≡ suc (n - 1) = omega arith in
-    (sym (l .loop .inv .1 ∙ ap (usedFrom (a .array .now) (a .b * a .pages)) e ∙ used-here (a .array .now) (a .b * a .pages) (n - 1) (sym (c .before .is-blank .ensures) ∙ not-true _ (c .if1 .taken)) ∙ sym e), l .loop .inv .0)
+    (sym (l .loop .inv .1 ∙ ap (usedFrom (a .array .now) (a .b * a .pages)) e ∙ used-end (a .array .now) (a .b * a .pages) (n - 1) (sym (c .before .is-blank .ensures) ∙ not-true _ (c .if1 .taken)) ∙ sym e), l .loop .inv .0)
 
 loop-less : tie.Need-loop-less Inv-loop μ-loop
 loop-less c = omega arith
@@ -49,7 +48,7 @@ loop-again c =
     let a = l .before .before .args in
     let n = l .loop .n in
     let e : n ≡ suc (n - 1) = omega arith in
-    (omega arith, l .loop .inv .1 ∙ ap (usedFrom (a .array .now) (a .b * a .pages)) e ∙ used-more (a .array .now) (a .b * a .pages) (n - 1) (sym (c .before .is-blank .ensures) ∙ not-false _ (c .if1 .left)))
+    (omega arith, l .loop .inv .1 ∙ ap (usedFrom (a .array .now) (a .b * a .pages)) e ∙ used-clean-end (a .array .now) (a .b * a .pages) (n - 1) (sym (c .before .is-blank .ensures) ∙ not-false _ (c .if1 .left)))
 
 returns-2 : tie.Need-returns-2 Inv-loop μ-loop
 unfolding usedIn usedFrom

@@ -1,12 +1,12 @@
 -- `page::erase` meets its contract. The loop's invariant: the first `i` bytes are 0xFF, the others as they were. Assumes nothing.
-use mathlib.Core.Path.{_≡_, refl, sym, ap, _∙_}
+use mathlib.Core.Path.{_≡_, refl, ap, _∙_}
 use mathlib.Core.List.{_++_, append-nil}
 use Prim.Native.Nat.{_≤_, _-_}
 use native.Mathlib.Omega.{arith}
 use native.Mathlib.Nat.{le-refl}
 use lib.ListN.{length, set, drop, replicate, length-set, drop-of-length-le}
 use borrow.Author.Needs.{needs}
-use borrow.Author.Fill.{fill-none, fill-more}
+use borrow.Author.Fill.{fill-more}
 use Rattle.page.proofs.erase.Statement.{statement}
 use Rattle.page.proofs.erase.Tie as tie
 

@@ -1,8 +1,8 @@
 -- `page::zeros` meets its contract. The loop's invariant: `n` counts the zero bits of the first `w` words; the last six bytes follow. Assumes nothing.
-use mathlib.Core.Path.{_≡_, refl, sym, ap, _∙_}
+use mathlib.Core.Path.{_≡_, refl, ap}
 use Prim.Native.Nat.{ℕ, _≤_, _<_, _-_, _+_, _*_}
 use native.Mathlib.Omega.{arith}
-use lib.ListN.{length, take, getD}
+use lib.ListN.{take, getD}
 use lib.Count.{ones, ones-le}
 use borrow.Author.Needs.{needs}
 use Rattle.model.specs.Bytes.{zeroBits}
