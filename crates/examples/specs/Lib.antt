@@ -1,0 +1,4 @@
+pub mod Unfolded
+pub mod Bench
+pub mod Devices
+pub mod Instances

@@ -1,0 +1,1 @@
+// The definitions of document 01 at work: its starred bench cases, computed devices, and an instance of every relation. Theorems only.
