@@ -44,11 +44,6 @@ top-sub nil = omega arith
 top-sub (skip y s) = omega (arith, top-sub s)
 top-sub (both y s) = omega (arith, top-sub s)
 
-pub noMark-sub : (i : ℕ) {xs ys : List Entry} → Sublist xs ys → NoMark i ys → NoMark i xs
-noMark-sub i nil h = h
-noMark-sub i (skip y s) h = noMark-sub i s (h .1)
-noMark-sub i (both y s) h = (h .0, noMark-sub i s (h .1))
-
 -- ---- one more entry
 pub pagesGood-one : (logical : ℕ) (es : List Entry) (e : Entry) → pagesGood logical es ≡ true → entryGood logical es e ≡ true → pagesGood logical (es ++ (e ∷ [])) ≡ true
 unfolding pagesGood allHeads

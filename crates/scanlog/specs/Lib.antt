@@ -5,10 +5,9 @@ pub mod Log
 pub mod Good
 pub mod Gone
 pub mod Logged
+pub mod Open
 pub mod Shape
 pub mod Take
-pub mod Open
-pub mod Pick
 pub mod Order
 pub mod Judged
 pub mod Slide
@@ -16,4 +15,6 @@ pub mod Tidy
 pub mod Free
 pub mod Start
 pub mod LogAt
+pub mod Pick
 pub mod Reclaim
+pub mod Examples

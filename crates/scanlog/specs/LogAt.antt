@@ -72,6 +72,7 @@ log-start g big xs map e =
 
 -- ---- and each thing that is done then
 module _ (g : Geometry) (floor : ℕ) (saved xs : List ℕ) (z : Zones) (ps : List Place) (map : List ℕ) (version : ℕ) (h : LogAt g floor saved xs z ps map version) where
+  -- what is scanned
   abbrev es : List Entry
   es = scanOf xs (g .pages) z
 
@@ -144,6 +145,7 @@ module _ (g : Geometry) (floor : ℕ) (saved xs : List ℕ) (z : Zones) (ps : Li
 
   -- ---- the next page is programmed with these data bytes
   module _ (inside : InGeometry g) (long : length xs ≡ g .blocks * g .pages * 528) (clean : 0 < cleanIn xs (g .pages) (availableOf z)) (q : ℕ) (d : List ℕ) (size : length d ≡ 512) (small : Bytes d) where
+    -- its number
     abbrev pub next : ℕ
     next = nextIn xs (g .pages) (availableOf z)
 
@@ -203,6 +205,7 @@ module _ (g : Geometry) (floor : ℕ) (saved xs : List ℕ) (z : Zones) (ps : Li
 
     -- of an active place
     module _ (i : ℕ) (among : i < length ps) (apart : placesOk g ps ≡ true) where
+      -- that place
       abbrev pub at : Place
       at = getD ps i noPlace
 

@@ -65,10 +65,6 @@ logged-saved logical floor saved es fs map version h s = record {
 }
 
 -- ---- identifiers
-pub noMark-one : (i : ℕ) (es : List Entry) (e : Entry) → NoMark i es → (e .id ≡ i → e .cnt ≡ 0) → NoMark i (es ++ (e ∷ []))
-noMark-one i [] e n h = (h, tt)
-noMark-one i (y ∷ es) e n h = (n .0, noMark-one i es e (n .1) h)
-
 -- an identifier on no page, never used or with no page left in the scan, has no mark and no pages: it may be used again
 pub off-mark : (i : ℕ) (es : List Entry) → onPages i es ≡ false → NoMark i es
 unfolding onPages any

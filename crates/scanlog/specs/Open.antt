@@ -19,7 +19,7 @@ use Rattle.model.specs.Transactions.{heldPage, begun, written, entered}
 use Rattle.model.specs.declared.Geometry.{Geometry}
 use Rattle.model.specs.declared.Place.{Place}
 use Rattle.arrays.specs.Tests.{Is, eqb-cases, and-left, and-right, or-cases, all-at}
-use Rattle.scanlog.specs.Log.{NoMark, ofId-same, ofId-other, enter-append}
+use Rattle.scanlog.specs.Log.{NoMark, ofId-same, enter-append}
 use Rattle.scanlog.specs.Good.{dataEntry}
 use Rattle.scanlog.specs.Logged.{off-none}
 
@@ -102,10 +102,6 @@ module _ (p : Place) (es : List Entry) (o : Open p es) where
 
   pub open-length : length (ofId (p .id) es) ≡ p .count - 1
   open-length = ap length o ∙ laid-length (p .id) (p .lpns) (p .ppns) (p .count - 1)
-
-  -- an entry of another identifier
-  pub open-other : (e : Entry) → e .id ≢ p .id → Open p (es ++ (e ∷ []))
-  open-other e n = ofId-other (p .id) es e n ∙ o
 
   -- the first write is held
   pub open-first : (k lpn : ℕ) → p .count ≡ 0 → Open (written p k lpn) es

@@ -5,10 +5,10 @@ use mathlib.Core.Logic.{_⊎_, inl, inr, _≢_}
 use mathlib.Core.Bool.{Bool, true, false, false≢true, cond, _&&_, _||_}
 use Prim.Native.Nat.{ℕ, zero, suc, _+_, _-_, _*_, _≤_, _<_}
 use native.Mathlib.Omega.{arith}
-use mathlib.Core.List.{List, [], _∷_, _++_}
+use mathlib.Core.List.{List, [], _∷_}
 use lib.ListN.{length, getD, set}
 use lib.Dec.{eqb, ltb, leb}
-use borrow.Author.Tests.{ltb-true, ltb-false, leb-true, leb-false, lt-ltb, le-leb, le-ltb, eqb-true, eq-eqb}
+use borrow.Author.Tests.{ltb-true, ltb-false, leb-true, lt-ltb, le-leb, eqb-true, eq-eqb}
 use Rattle.model.specs.Lists.{any, find, elem, count}
 use Rattle.model.specs.Zones.{checkpointed}
 use Rattle.model.specs.Checkpoint.{Found, nothing, at}
@@ -16,7 +16,6 @@ use Rattle.model.specs.Strides.{mappedIn, fewer, pickFrom, lowestFrom}
 use Rattle.model.specs.declared.Zones.{Zones}
 use Rattle.arrays.specs.Tests.{decide, clash, not-so, Is, eqb-cases, and-left, and-right, and-both, or-false-left, or-false-right, find-passes}
 use Rattle.arrays.specs.Pages.{page-apart}
-use Rattle.scanlog.specs.Occ.{occ, elem-occ}
 
 -- ---- the pick of the blocks from lo up to hi
 -- b is checkpointed, those before it have more mapped pages, those after it no fewer
@@ -227,6 +226,7 @@ module _ (map : List ℕ) (p b : ℕ) (due : 0 < mappedIn map p b) where
 
   -- ---- the copy, on a page that is in no checkpointed block
   module _ (k : ℕ) where
+    -- the map after it
     abbrev pub copied : List ℕ
     copied = set map (find (eqb lowest) map) k
 

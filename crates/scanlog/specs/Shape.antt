@@ -138,9 +138,6 @@ module _ (g : Geometry) (z : Zones) (ok : zonesOk g z ≡ true) where
   pub each-once : (c : ℕ) → occ c (availableOf z) + occ c (unavailableOf z) + occ c (freeOf z) ≤ 1
   each-once c = omega (arith, shape .distinct c, occ-append c (availableOf z) (unavailableOf z ++ freeOf z), occ-append c (unavailableOf z) (freeOf z))
 
-  pub scanned-once : Distinct (unavailableOf z ++ availableOf z)
-  scanned-once c = omega (arith, each-once c, occ-append c (unavailableOf z) (availableOf z))
-
   -- a block that is in a list is a data block
   pub listed-block : (c : ℕ) → 0 < occ c (availableOf z) + occ c (unavailableOf z) + occ c (freeOf z) → dataBlock g c ≡ true
   listed-block c l = shape .blocks c (omega (arith, occ-append c (availableOf z) (unavailableOf z ++ freeOf z), occ-append c (unavailableOf z) (freeOf z)))

@@ -26,16 +26,19 @@ use Rattle.scanlog.specs.Order.{Order, each-sub, each-is, is-each, order
 use Rattle.scanlog.specs.Judged.{scan-sub, order-leave, Wanted, judged-ofId, Complete, unwanted-complete, block-top, judged-gone}
 
 module _ (g : Geometry) (xs : List ℕ) (ps : List Place) (z : Zones) where
-  -- those still available, the others that were scanned, the pages near, those of the others that are kept
+  -- those still available
   unfoldable pub stay : List ℕ
   stay = staying xs (g .pages) (availableOf z)
 
+  -- the others that were scanned
   unfoldable pub others : List ℕ
   others = unavailableOf z ++ leaving xs (g .pages) (availableOf z)
 
+  -- the pages of the still available blocks
   unfoldable pub near : List Entry
   near = scanIn xs (g .pages) stay
 
+  -- those of the others that are kept
   unfoldable pub kept : List ℕ
   kept = judged xs (g .pages) ps near others
 

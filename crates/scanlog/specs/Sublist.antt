@@ -63,12 +63,6 @@ module _ {A : Type 0} where
   unfolding those
   those-not-last p xs x e = those-append p xs (x ∷ []) ∙ rw e (append-nil (those p xs))
 
-  pub sub-those-both : (p : A → Bool) {xs ys : List A} → Sublist xs ys → Sublist (those p xs) (those p ys)
-  unfolding those
-  sub-those-both p nil = nil
-  sub-those-both p (skip y s) = sub-append (sub-nil (keep (p y) (y ∷ []))) (sub-those-both p s)
-  sub-those-both p (both y s) = sub-append (sub-refl (keep (p y) (y ∷ []))) (sub-those-both p s)
-
   -- ---- tests that pass the whole pass a sublist
   pub all-sub : (p : A → Bool) {xs ys : List A} → Sublist xs ys → all p ys ≡ true → all p xs ≡ true
   unfolding all

@@ -28,6 +28,7 @@ use Rattle.scanlog.specs.Shape.{each-once, listed-block, Unlisted}
 use Rattle.scanlog.specs.Order.{Order, is-each, away, order-stays, order-next, order-scan, order-clean, next-others}
 use Rattle.scanlog.specs.Slide.{slide-ok, slide-order, slide-blank, slide-sub}
 
+-- zones in shape, the available list in order, the free blocks erased
 pub record Tidy (g : Geometry) (xs : List ℕ) (z : Zones) : Type 0 where
   pub ok : zonesOk g z ≡ true
   pub order : Order xs (g .pages) (availableOf z)

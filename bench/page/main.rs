@@ -1,0 +1,300 @@
+// Classing, programming and erasing pages: the proved functions of `page` (linked from libpageffi.a) beside plain Rust
+// that does the same job, in one run over 4 MB of erased, random and whole pages.
+use std::hint::black_box;
+use std::time::Instant;
+
+const PAGE: usize = 528;
+const BLOCK: usize = 64 * PAGE;
+const PAGES: usize = 7936; // 124 blocks of 64 pages: 4.19 MB
+const ROUNDS: usize = 301;
+
+extern "C" {
+    fn pageffi_class(page: *const u8, len: usize) -> u8;
+    fn pageffi_program(page: *mut u8, len: usize, data: *const u8, data_len: usize, lpn: u16, cnt: u16, id: u32, ver: u32);
+    fn pageffi_erase(block: *mut u8, len: usize);
+}
+
+fn class_proved(page: &[u8]) -> u8 {
+    unsafe { pageffi_class(page.as_ptr(), page.len()) }
+}
+
+fn program_proved(page: &mut [u8], data: &[u8], lpn: u16, cnt: u16, id: u32, ver: u32) {
+    unsafe { pageffi_program(page.as_mut_ptr(), page.len(), data.as_ptr(), data.len(), lpn, cnt, id, ver) }
+}
+
+fn erase_proved(block: &mut [u8]) {
+    unsafe { pageffi_erase(block.as_mut_ptr(), block.len()) }
+}
+
+// ---- plain Rust, byte by byte
+fn zeros_bytes(page: &[u8]) -> u32 {
+    page[..526].iter().map(|b| b.count_zeros()).sum()
+}
+
+#[inline(never)]
+fn class_bytes(page: &[u8]) -> u8 {
+    if page.len() != PAGE {
+        return 3;
+    }
+    if page.iter().all(|&b| b == 0xFF) {
+        return 0;
+    }
+    if zeros_bytes(page) == u16::from_le_bytes([page[526], page[527]]) as u32 {
+        1
+    } else {
+        2
+    }
+}
+
+// ---- plain Rust, word by word
+fn word(c: &[u8]) -> u64 {
+    u64::from_le_bytes(c.try_into().unwrap())
+}
+
+fn zeros_words(page: &[u8]) -> u32 {
+    let words: u32 = page[..520].chunks_exact(8).map(|c| word(c).count_zeros()).sum();
+    let rest: u32 = page[520..526].iter().map(|b| b.count_zeros()).sum();
+    words + rest
+}
+
+#[inline(never)]
+fn class_words(page: &[u8]) -> u8 {
+    if page.len() != PAGE {
+        return 3;
+    }
+    if page.chunks_exact(8).all(|c| word(c) == u64::MAX) {
+        return 0;
+    }
+    if zeros_words(page) == u16::from_le_bytes([page[526], page[527]]) as u32 {
+        1
+    } else {
+        2
+    }
+}
+
+// the same in one pass
+#[inline(never)]
+fn class_once(page: &[u8]) -> u8 {
+    if page.len() != PAGE {
+        return 3;
+    }
+    let n = zeros_words(page);
+    let stored = u16::from_le_bytes([page[526], page[527]]) as u32;
+    if n == 0 && stored == 0xFFFF {
+        return 0;
+    }
+    if n == stored {
+        1
+    } else {
+        2
+    }
+}
+
+// the first word, then what all words have in common
+#[inline(never)]
+fn class_common(page: &[u8]) -> u8 {
+    if page.len() != PAGE {
+        return 3;
+    }
+    if word(&page[..8]) == u64::MAX && page.chunks_exact(8).fold(u64::MAX, |c, w| c & word(w)) == u64::MAX {
+        return 0;
+    }
+    if zeros_words(page) == u16::from_le_bytes([page[526], page[527]]) as u32 {
+        1
+    } else {
+        2
+    }
+}
+
+fn spare(page: &mut [u8], lpn: u16, cnt: u16, id: u32, ver: u32) {
+    page[512..514].copy_from_slice(&lpn.to_le_bytes());
+    page[514..516].copy_from_slice(&cnt.to_le_bytes());
+    page[516..520].copy_from_slice(&id.to_le_bytes());
+    page[520..524].copy_from_slice(&ver.to_le_bytes());
+    page[524] = 0;
+    page[525] = 0;
+}
+
+#[inline(never)]
+fn program_bytes(page: &mut [u8], data: &[u8], lpn: u16, cnt: u16, id: u32, ver: u32) {
+    if page.len() != PAGE || data.len() != 512 {
+        return;
+    }
+    page[..512].copy_from_slice(data);
+    spare(page, lpn, cnt, id, ver);
+    let z = zeros_bytes(page) as u16;
+    page[526..].copy_from_slice(&z.to_le_bytes());
+}
+
+#[inline(never)]
+fn program_words(page: &mut [u8], data: &[u8], lpn: u16, cnt: u16, id: u32, ver: u32) {
+    if page.len() != PAGE || data.len() != 512 {
+        return;
+    }
+    page[..512].copy_from_slice(data);
+    spare(page, lpn, cnt, id, ver);
+    let z = zeros_words(page) as u16;
+    page[526..].copy_from_slice(&z.to_le_bytes());
+}
+
+#[inline(never)]
+fn erase_fill(block: &mut [u8]) {
+    block.fill(0xFF);
+}
+
+#[inline(never)]
+fn erase_loop(block: &mut [u8]) {
+    for b in block.iter_mut() {
+        *b = 0xFF;
+    }
+}
+
+// ---- pages
+struct Random(u64);
+
+impl Random {
+    fn next(&mut self) -> u64 {
+        self.0 ^= self.0 << 13;
+        self.0 ^= self.0 >> 7;
+        self.0 ^= self.0 << 17;
+        self.0
+    }
+
+    fn fill(&mut self, bytes: &mut [u8]) {
+        for b in bytes {
+            *b = (self.next() >> 24) as u8;
+        }
+    }
+}
+
+fn classes(array: &[u8], f: impl Fn(&[u8]) -> u8) -> [u32; 4] {
+    let mut n = [0; 4];
+    for page in array.chunks_exact(PAGE) {
+        n[f(black_box(page)) as usize] += 1;
+    }
+    n
+}
+
+fn programs(array: &mut [u8], data: &[u8], f: impl Fn(&mut [u8], &[u8], u16, u16, u32, u32)) {
+    for (k, page) in array.chunks_exact_mut(PAGE).enumerate() {
+        let d = &data[k % 64 * 512..k % 64 * 512 + 512];
+        f(black_box(page), black_box(d), k as u16, 1, 77, k as u32);
+    }
+}
+
+fn erases(array: &mut [u8], f: impl Fn(&mut [u8])) {
+    for block in array.chunks_exact_mut(BLOCK) {
+        f(black_box(block));
+    }
+}
+
+// The least time of each of several ways, in nanoseconds a page, taken in turn.
+fn least(ways: &mut [(&str, Box<dyn FnMut() + '_>)]) -> Vec<f64> {
+    let mut best = vec![f64::MAX; ways.len()];
+    for _ in 0..ROUNDS {
+        for (i, (_, way)) in ways.iter_mut().enumerate() {
+            let t = Instant::now();
+            way();
+            best[i] = best[i].min(t.elapsed().as_nanos() as f64 / PAGES as f64);
+        }
+    }
+    best
+}
+
+// One line: the proved way is the first; it is compared with the fastest of the others.
+fn line(what: &str, ways: &mut [(&str, Box<dyn FnMut() + '_>)]) -> bool {
+    let best = least(ways);
+    let (i, plain) = best[1..].iter().enumerate().min_by(|a, b| a.1.total_cmp(b.1)).unwrap();
+    let ratio = best[0] / plain;
+    println!("| {what} | {:.1} | {:.1} ({}) | {ratio:.2} |", best[0], plain, ways[i + 1].0);
+    ratio <= 1.2
+}
+
+fn main() {
+    let mut random = Random(0x9E3779B97F4A7C15);
+    let mut data = vec![0u8; 64 * 512];
+    random.fill(&mut data);
+    let erased = vec![0xFFu8; PAGES * PAGE];
+    let mut noise = vec![0u8; PAGES * PAGE];
+    random.fill(&mut noise);
+    let mut whole = erased.clone();
+    programs(&mut whole, &data, program_words);
+
+    for (name, array) in [("erased", &erased), ("random", &noise), ("whole", &whole)] {
+        let n = classes(array, class_bytes);
+        assert_eq!(n, classes(array, class_words));
+        assert_eq!(n, classes(array, class_once));
+        assert_eq!(n, classes(array, class_common));
+        assert_eq!(n, classes(array, class_proved), "{name}");
+    }
+    let mut again = noise.clone();
+    programs(&mut again, &data, program_proved);
+    assert!(again == whole);
+    erases(&mut again, erase_proved);
+    assert!(again == erased);
+
+    println!("| ns a page | proved | plain Rust, the fastest | times |");
+    println!("|---|---|---|---|");
+    let mut fast = true;
+    for (name, array) in [("erased", &erased), ("random", &noise), ("whole", &whole)] {
+        fast &= line(
+            &format!("class, {name} pages"),
+            &mut [
+                (
+                    "proved",
+                    Box::new(|| {
+                        black_box(classes(array, class_proved));
+                    }),
+                ),
+                (
+                    "bytes",
+                    Box::new(|| {
+                        black_box(classes(array, class_bytes));
+                    }),
+                ),
+                (
+                    "words",
+                    Box::new(|| {
+                        black_box(classes(array, class_words));
+                    }),
+                ),
+                (
+                    "words in one pass",
+                    Box::new(|| {
+                        black_box(classes(array, class_once));
+                    }),
+                ),
+                (
+                    "words in common",
+                    Box::new(|| {
+                        black_box(classes(array, class_common));
+                    }),
+                ),
+            ],
+        );
+    }
+    let mut a = erased.clone();
+    let mut b = erased.clone();
+    let mut c = erased.clone();
+    fast &= line(
+        "program",
+        &mut [
+            ("proved", Box::new(|| programs(&mut a, &data, program_proved))),
+            ("bytes", Box::new(|| programs(&mut b, &data, program_bytes))),
+            ("words", Box::new(|| programs(&mut c, &data, program_words))),
+        ],
+    );
+    let mut a = noise.clone();
+    let mut b = noise.clone();
+    let mut c = noise.clone();
+    fast &= line(
+        "erase",
+        &mut [
+            ("proved", Box::new(|| erases(&mut a, erase_proved))),
+            ("fill", Box::new(|| erases(&mut b, erase_fill))),
+            ("loop", Box::new(|| erases(&mut c, erase_loop))),
+        ],
+    );
+    println!("{}", if fast { "each at most 1.2 times" } else { "SLOWER than 1.2 times" });
+    std::process::exit(!fast as i32);
+}

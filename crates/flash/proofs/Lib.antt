@@ -1,0 +1,3 @@
+pub mod Programming
+pub mod Scanning
+pub mod Ranges

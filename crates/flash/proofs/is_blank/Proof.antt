@@ -1,0 +1,18 @@
+-- `flash::is_blank` meets its contract: from what its calls ensure. Assumes nothing.
+use borrow.Author.Needs.{needs}
+use Rattle.model.specs.Page.{blankAt}
+use Rattle.flash.proofs.is_blank.Statement.{statement}
+use Rattle.flash.proofs.is_blank.Tie as tie
+
+page-of-requires : tie.Need-page-of-requires
+page-of-requires c κs = search needs
+
+erased-requires : tie.Need-erased-requires
+erased-requires c κs = search needs
+
+returns : tie.Need-returns
+unfolding blankAt
+returns c = cc
+
+pub is-blank-spec : {M : Type 1} → statement M
+is-blank-spec = tie.close (tie.spec page-of-requires erased-requires returns)

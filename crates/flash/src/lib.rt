@@ -1,0 +1,132 @@
+// The lent array: pages and blocks in it by number, and the single program or erase of a call.
+// Every function requires that the pages which it looks at or changes lie in the array.
+ghost use mathlib.Core.Path.{_≡_};
+ghost use Prim.Native.Nat.{_+_, _*_, _≤_};
+ghost use lib.ListN.{length};
+ghost use Rattle.model.specs.Page.{isWhole, spareOf, pageBytes, pageAt, blankAt, wholeAt};
+ghost use Rattle.model.specs.Zones.{usedIn, cleanIn, nextIn};
+ghost use Rattle.model.specs.World.{applyOp, erase};
+ghost use Rattle.flash.specs.Programs.{Programmed};
+ghost use Rattle.flash.specs.Ranges.{Within};
+use model::Class;
+use model::Spare;
+
+/// The part of the array that is page k.
+pub fn page_of(array: &[u8], k: usize) -> &[u8]
+    requires { ⌜ k * 528 + 528 ≤ length (now array) ⌝ }
+    ensures { λ r. ⌜ (now r ≡ pageAt (now (array .entry)) k) × (length (now r) ≡ 528) ⌝ }
+{
+    let a = k * Spare::PAGE;
+    let e = a + Spare::PAGE;
+    &array[a..e]
+}
+
+/// Whether page k is erased.
+pub fn is_blank(array: &[u8], k: usize) -> bool
+    requires { ⌜ k * 528 + 528 ≤ length (now array) ⌝ }
+    ensures { λ r. ⌜ r ≡ blankAt (now (array .entry)) k ⌝ }
+{
+    page::erased(page_of(array, k))
+}
+
+/// Whether a class is whole.
+fn whole(c: Class) -> bool
+    ensures { λ r. ⌜ r ≡ isWhole c ⌝ }
+{
+    match c {
+        Class::Erased => false,
+        Class::Whole => true,
+        Class::Torn => false,
+    }
+}
+
+/// Whether page k is whole.
+pub fn is_whole(array: &[u8], k: usize) -> bool
+    requires { ⌜ k * 528 + 528 ≤ length (now array) ⌝ }
+    ensures { λ r. ⌜ r ≡ wholeAt (now (array .entry)) k ⌝ }
+{
+    whole(page::classify(page_of(array, k)))
+}
+
+/// The spare area of page k before Zeros.
+pub fn spare_at(array: &[u8], k: usize) -> Spare
+    requires { ⌜ k * 528 + 528 ≤ length (now array) ⌝ }
+    ensures { λ r. ⌜ r ≡ spareOf (pageAt (now (array .entry)) k) ⌝ }
+{
+    page::read_spare(page_of(array, k))
+}
+
+/// Programs page k with these data and this spare area.
+pub fn program_at(array: &mut [u8], k: usize, data: &[u8], s: Spare)
+    requires { ⌜ (k * 528 + 528 ≤ length (now array)) × (length (now «data») ≡ 512) ⌝ }
+    ensures { λ _. ⌜ Programmed (now (array .entry)) k (pageBytes (now («data» .entry)) s) (now (array .exit)) ⌝ }
+{
+    let start = k * Spare::PAGE;
+    let end = start + Spare::PAGE;
+    page::program(&mut array[start..end], data, s);
+}
+
+/// Erases block b of `pages` pages.
+pub fn erase_block(array: &mut [u8], pages: usize, b: usize)
+    requires { ⌜ b * pages * 528 + pages * 528 ≤ length (now array) ⌝ }
+    ensures { λ _. ⌜ now (array .exit) ≡ applyOp pages (erase b) (now (array .entry)) ⌝ }
+{
+    let start = b * pages * Spare::PAGE;
+    let end = start + pages * Spare::PAGE;
+    page::erase(&mut array[start..end]);
+}
+
+/// The pages of block b up to and with its last that is not erased: the clean ones come after.
+pub fn used_in(array: &[u8], pages: usize, b: usize) -> usize
+    requires { ⌜ b * pages * 528 + pages * 528 ≤ length (now array) ⌝ }
+    ensures { λ r. ⌜ (r ≡ usedIn (now (array .entry)) pages b) × (r ≤ pages) ⌝ }
+{
+    let first = b * pages;
+    let mut n = pages;
+    while 0 < n {
+        let m = n - 1;
+        if !is_blank(array, first + m) {
+            return n;
+        }
+        n = m;
+    }
+    0
+}
+
+/// The clean pages of some blocks.
+pub fn clean_in(array: &[u8], pages: usize, blocks: &[u8]) -> usize
+    requires { ⌜ Within (length (now array)) pages (now blocks) ⌝ }
+    ensures { λ r. ⌜ r ≡ cleanIn (now (array .entry)) pages (now (blocks .entry)) ⌝ }
+{
+    let mut n = 0;
+    let mut i = 0;
+    while i < blocks.len() {
+        n += pages - used_in(array, pages, wide(blocks[i]));
+        i += 1;
+    }
+    n
+}
+
+/// The page to be taken next: the first clean one of the first block that has any; 0 where none has.
+pub fn next_in(array: &[u8], pages: usize, blocks: &[u8]) -> usize
+    requires { ⌜ Within (length (now array)) pages (now blocks) ⌝ }
+    ensures { λ r. ⌜ r ≡ nextIn (now (array .entry)) pages (now (blocks .entry)) ⌝ }
+{
+    let mut i = 0;
+    while i < blocks.len() {
+        let b = wide(blocks[i]);
+        let used = used_in(array, pages, b);
+        if used < pages {
+            return b * pages + used;
+        }
+        i += 1;
+    }
+    0
+}
+
+/// A byte as a number of the array's size.
+fn wide(x: u8) -> usize
+    ensures { λ r. ⌜ r ≡ x ⌝ }
+{
+    x as usize
+}
