@@ -1,24 +1,23 @@
 -- The array under a layer's operations: a program puts a whole page on an erased one, every page stays lean, and a cut leaves what the book tells of it:
 -- with every due bit of a program turned, the whole program; else no whole page that was not there before.
 use mathlib.Core.Path.{_≡_, refl, sym, ap, _∙_, subst}
-use mathlib.Core.Bool.{Bool, true, false, false≢true, _&&_}
+use mathlib.Core.Bool.{true, false, false≢true, _&&_}
 use mathlib.Core.Logic.{_⊎_, inl, inr}
-use Prim.Native.Nat.{ℕ, zero, suc, _+_, _-_, _*_, _≤_, _<_}
+use Prim.Native.Nat.{ℕ, _+_, _*_, _<_}
 use native.Mathlib.Omega.{arith}
 use native.Mathlib.Decide.{ℕ-discrete, decLt}
-use mathlib.Core.List.{List, []}
+use mathlib.Core.List.{List}
 use lib.ListN.{length, take, drop, replicate}
 use Rattle.model.specs.Lists.{same}
-use Rattle.model.specs.Bytes.{ands, ors, minus, allFF}
+use Rattle.model.specs.Bytes.{ands, ors, minus}
 use Rattle.model.specs.Page.{classOf, spareOf, pageAt, dataAt, putPage, pageBytes, blankAt, wholeAt}
 use Rattle.model.specs.World.{Op, none, program, erase, applyOp, dueBits, turnedBits, turn, cutOp, programs, everyTurned}
 use Rattle.model.specs.declared.Spare.{Spare}
-use Rattle.model.specs.declared.Class.{Class}
-use Rattle.model.specs.declared.Class.the-variants.{Erased, Whole, Torn}
+use Rattle.model.specs.declared.Class.the-variants.{Whole}
 use Rattle.arrays.specs.Tests.{clash, same-is, is-same, decide}
 use Rattle.arrays.specs.Bytelist.{Bytes, bytes-drop, allFF-replicate, minus-due}
-use Rattle.arrays.specs.Pages.{PageFits, BlockFits, Outside, Where, inside, away, where-is, length-page, bytes-page, block-page-fits, page-past, put-same, data-page}
-use Rattle.arrays.specs.Ops.{InRange, bytes-turned, program-at, program-other, cut-program-at, cut-program-other, program-stores, erase-at, erase-other, cut-erase-at, cut-erase-other}
+use Rattle.arrays.specs.Pages.{PageFits, BlockFits, Where, inside, away, where-is, length-page, bytes-page, block-page-fits, page-past, put-same, data-page}
+use Rattle.arrays.specs.Ops.{InRange, bytes-turned, program-other, cut-program-at, cut-program-other, program-stores, erase-at, erase-other, cut-erase-at, cut-erase-other}
 use Rattle.arrays.specs.Image.{SpareFits, image-length, image-whole, image-bytes, image-data, image-spare}
 use Rattle.arrays.specs.Whole.{Lean, whole-class, class-whole, whole-not-blank, whole-lean, nil-lean, erased-lean, program-lean, program-whole, program-all, erase-lean, erase-whole}
 

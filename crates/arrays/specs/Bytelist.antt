@@ -2,12 +2,12 @@
 use mathlib.Core.Path.{_≡_, refl, sym, ap, ap₂, _∙_, subst}
 use Prim.Native.Nat.{ℕ, zero, suc, _+_, _-_, _*_, _≤_, _<_}
 use native.Mathlib.Omega.{arith}
-use mathlib.Core.Bool.{Bool, true, false, false≢true, cond, _&&_}
+use mathlib.Core.Bool.{Bool, true, false, false≢true, cond}
 use mathlib.Core.List.{List, [], _∷_, _++_}
 use lib.ListN.{length, take, drop, getD, replicate}
 use lib.Dec.{eqb, ltb}
-use lib.Bits.{bitOr, bitAnd, or-lt, and-le-l}
-use lib.Count.{ones, ones-ones}
+use lib.Bits.{bitOr, or-lt, and-le-l}
+use lib.Count.{ones-ones}
 use borrow.Author.Tests.{ltb-true, lt-ltb, eqb-true, ne-eqb}
 use Rattle.model.specs.Lists.{all}
 use Rattle.model.specs.Bytes.{bytes, zeroBits, allFF, ands, ors, minus, zerosOf}

@@ -8,3 +8,6 @@ pub mod Ops
 pub mod Image
 pub mod Whole
 pub mod Arrays
+pub mod Used
+pub mod Scan
+pub mod Examples

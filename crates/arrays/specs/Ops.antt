@@ -1,17 +1,16 @@
 -- What an operation, done or cut, leaves: the length, the bytes, and each page.
 use mathlib.Core.Path.{_≡_, refl, sym, ap, _∙_}
-use mathlib.Core.Bool.{Bool, true, false}
-use mathlib.Core.Logic.{_⊎_, inl, inr}
-use Prim.Native.Nat.{ℕ, zero, suc, _+_, _-_, _*_, _≤_, _<_}
+use mathlib.Core.Bool.{true}
+use Prim.Native.Nat.{ℕ, _+_, _*_, _<_}
 use native.Mathlib.Omega.{arith}
-use mathlib.Core.List.{List, []}
+use mathlib.Core.List.{List}
 use lib.ListN.{length, take, drop, replicate, length-replicate}
 use Rattle.model.specs.Lists.{part}
-use Rattle.model.specs.Bytes.{bytes, ands, ors, minus, zerosOf}
-use Rattle.model.specs.Page.{pageAt, blockAt, putPage, putBlock, blankAt}
+use Rattle.model.specs.Bytes.{bytes, ands, ors, minus}
+use Rattle.model.specs.Page.{pageAt, blockAt, putPage, blankAt}
 use Rattle.model.specs.World.{Op, none, program, erase, applyOp, dueBits, turnedBits, turn, cutOp}
-use Rattle.arrays.specs.Bytelist.{Bytes, bytes-true, true-bytes, bytes-replicate, bytes-ands, bytes-ors, bytes-minus, bytes-zeros, length-ands, length-ors, length-minus, take-ors, drop-ors, ands-erased}
-use Rattle.arrays.specs.Pages.{PageFits, BlockFits, Outside, length-page, bytes-page, length-block, bytes-block, page-of-block, page-blank, length-put, bytes-put, put-same, put-other, length-put-block, bytes-put-block, block-page, block-other, page-replicate}
+use Rattle.arrays.specs.Bytelist.{Bytes, bytes-true, true-bytes, bytes-replicate, bytes-ands, bytes-ors, bytes-minus, bytes-zeros, length-ands, length-ors, length-minus, take-ors, drop-ors, ands-erased, ors-erased, bytes-drop}
+use Rattle.arrays.specs.Pages.{PageFits, BlockFits, Outside, Other, OtherBlock, outside-block, length-page, bytes-page, length-block, bytes-block, page-of-block, page-blank, length-put, bytes-put, put-same, put-other, length-put-block, bytes-put-block, block-page, block-other, page-replicate}
 
 -- the operation stays inside the array
 abbrev pub InRange : ℕ → Op → List ℕ → Type 0
@@ -75,7 +74,7 @@ module _ (p : ℕ) (xs : List ℕ) (k : ℕ) (new : List ℕ) (fits : PageFits x
   unfolding applyOp
   program-at = put-same xs k (ands (pageAt xs k) new) fits (length-ands (pageAt xs k) new ∙ length-page xs k fits)
 
-  pub program-other : (j : ℕ) → (j ≡ k → ⊥) → pageAt (applyOp p (program k new) xs) j ≡ pageAt xs j
+  pub program-other : Other k xs (applyOp p (program k new) xs)
   unfolding applyOp
   program-other j ne = put-other xs k (ands (pageAt xs k) new) fits (length-ands (pageAt xs k) new ∙ length-page xs k fits) j ne
 
@@ -85,7 +84,7 @@ module _ (p : ℕ) (xs : List ℕ) (k : ℕ) (new : List ℕ) (fits : PageFits x
       let t = turnedBits p (program k new) lets xs in
       put-same xs k (minus (pageAt xs k) t) fits (length-minus (pageAt xs k) t ∙ length-page xs k fits)
 
-  pub cut-program-other : (lets : List ℕ) (j : ℕ) → (j ≡ k → ⊥) → pageAt (cutOp p (program k new) lets xs) j ≡ pageAt xs j
+  pub cut-program-other : (lets : List ℕ) → Other k xs (cutOp p (program k new) lets xs)
   unfolding cutOp turn
   cut-program-other lets j ne =
       let t = turnedBits p (program k new) lets xs in
@@ -110,6 +109,9 @@ module _ (p : ℕ) (xs : List ℕ) (b : ℕ) (fits : BlockFits p xs b) where
   unfolding applyOp
   erase-other j h = block-other p xs b (replicate (p * 528) 255) fits (length-replicate (p * 528) 255) j h
 
+  pub erase-others : OtherBlock p b xs (applyOp p (erase b) xs)
+  erase-others = outside-block p b xs (applyOp p (erase b) xs) erase-other
+
   long-turned : (t : List ℕ) → length (ors (blockAt p xs b) t) ≡ p * 528
   long-turned t = length-ors (blockAt p xs b) t ∙ length-block p xs b fits
 
@@ -128,3 +130,13 @@ module _ (p : ℕ) (xs : List ℕ) (b : ℕ) (fits : BlockFits p xs b) where
   cut-erase-other lets j h =
       let t = turnedBits p (erase b) lets xs in
       block-other p xs b (ors (blockAt p xs b) t) fits (long-turned t) j h
+
+  pub cut-erase-others : (lets : List ℕ) → OtherBlock p b xs (cutOp p (erase b) lets xs)
+  cut-erase-others lets = outside-block p b xs (cutOp p (erase b) lets xs) (cut-erase-other lets)
+
+  -- an erased page stays erased
+  pub cut-erase-blank : Bytes xs → (lets : List ℕ) (i : ℕ) → i < p → blankAt xs (b * p + i) ≡ true → pageAt (cutOp p (erase b) lets xs) (b * p + i) ≡ pageAt xs (b * p + i)
+  unfolding blankAt
+  cut-erase-blank y lets i h e =
+      let t = turnedBits p (erase b) lets xs in
+      cut-erase-at lets i h ∙ ors-erased (pageAt xs (b * p + i)) (drop (i * 528) t) e (bytes-drop (i * 528) t (bytes-turned p (erase b) lets xs y))

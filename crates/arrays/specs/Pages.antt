@@ -1,8 +1,8 @@
 -- Pages and blocks of an array: their lengths and bytes, and what is read where one was replaced.
-use mathlib.Core.Path.{_≡_, refl, sym, ap, _∙_}
-use mathlib.Core.Bool.{Bool, true, false}
+use mathlib.Core.Path.{_≡_, refl, ap, _∙_}
+use mathlib.Core.Bool.{true}
 use mathlib.Core.Logic.{_⊎_, inl, inr}
-use Prim.Native.Nat.{ℕ, zero, suc, _+_, _-_, _*_, _≤_, _<_, min}
+use Prim.Native.Nat.{ℕ, suc, _+_, _-_, _*_, _≤_, _<_}
 use native.Mathlib.Omega.{arith, ne-cases}
 use native.Mathlib.Nat.{mul-le-mul-right}
 use native.Mathlib.Decide.{decLt}
@@ -128,6 +128,27 @@ pub data-same : (xs ys : List ℕ) (j k : ℕ) → pageAt ys j ≡ pageAt xs k �
 unfolding dataAt
 data-same xs ys j k e = ap (take 512) e
 
+-- ---- arrays that agree
+-- ys agrees with xs on every page but k
+abbrev pub Other : ℕ → List ℕ → List ℕ → Type 0
+Other k xs ys = (j : ℕ) → (j ≡ k → ⊥) → pageAt ys j ≡ pageAt xs j
+
+-- on the n pages from page f on
+abbrev pub SamePages : List ℕ → List ℕ → ℕ → ℕ → Type 0
+SamePages xs ys f n = (i : ℕ) → i < n → pageAt ys (f + i) ≡ pageAt xs (f + i)
+
+-- on every page of every block but b
+abbrev pub OtherBlock : ℕ → ℕ → List ℕ → List ℕ → Type 0
+OtherBlock p b xs ys = (c : ℕ) → (c ≡ b → ⊥) → SamePages xs ys (c * p) p
+
+-- a page of block b alone differs: every other block is as it was
+pub other-block : (p b i : ℕ) (xs ys : List ℕ) → i < p → Other (b * p + i) xs ys → OtherBlock p b xs ys
+other-block p b i xs ys h o c ne j l = o (c * p + j) (page-apart p b c j i ne l h)
+
+-- pages outside block b agree: so does every other block
+pub outside-block : (p b : ℕ) (xs ys : List ℕ) → ((j : ℕ) → Outside p b j → pageAt ys j ≡ pageAt xs j) → OtherBlock p b xs ys
+outside-block p b xs ys h c ne i l = h (c * p + i) (outside p b c i ne l)
+
 -- ---- a page replaced
 -- by one as long as it is, in range or not
 pub length-put : (xs : List ℕ) (k : ℕ) (q : List ℕ) → length q ≡ length (pageAt xs k) → length (putPage xs k q) ≡ length xs
@@ -143,7 +164,7 @@ module _ (xs : List ℕ) (k : ℕ) (q : List ℕ) (fits : PageFits xs k) (long :
   unfolding putPage pageAt
   put-same = read-same xs q (k * 528) 528 fits long
 
-  pub put-other : (j : ℕ) → (j ≡ k → ⊥) → pageAt (putPage xs k q) j ≡ pageAt xs j
+  pub put-other : Other k xs (putPage xs k q)
   unfolding putPage pageAt
   put-other j ne =
       ne-cases j k (part (j * 528) 528 (splice xs (k * 528) 528 q) ≡ part (j * 528) 528 xs) ne

@@ -4,11 +4,11 @@
 use mathlib.Core.Path.{_≡_, refl, sym, ap, _∙_, subst}
 use mathlib.Core.Bool.{Bool, true, false, false≢true, cond}
 use mathlib.Core.Logic.{_⊎_, inl, inr}
-use Prim.Native.Nat.{ℕ, zero, suc, _+_, _-_, _*_, _≤_, _<_}
+use Prim.Native.Nat.{ℕ, suc, _+_, _≤_, _<_}
 use native.Mathlib.Omega.{arith}
 use native.Mathlib.Nat.{le-of-eq}
 use mathlib.Core.List.{List, [], _∷_, _++_}
-use lib.ListN.{length, take, drop, getD, replicate, take-append-drop, drop-of-length-le, length-take}
+use lib.ListN.{length, take, getD, take-append-drop, drop-of-length-le}
 use lib.Seq.{drop-cons}
 use lib.Dec.{eqb}
 use borrow.Author.Tests.{eqb-true, eq-eqb}
@@ -16,8 +16,8 @@ use Rattle.model.specs.Bytes.{zeroBits, allFF, ands, ors, minus, le16}
 use Rattle.model.specs.Page.{classOf, isWhole, pageAt, wholeAt, blankAt}
 use Rattle.model.specs.declared.Class.{Class}
 use Rattle.model.specs.declared.Class.the-variants.{Erased, Whole, Torn}
-use Rattle.arrays.specs.Tests.{clash}
-use Rattle.arrays.specs.Bytelist.{Bytes, Overs, overs-refl, overs-trans, overs-antisym, overs-length, overs-take, overs-at, zeros-overs, zeros-overs-same, bytes-take, bytes-minus, bytes-ands, bytes-ors, ors-over, ands-erased, minus-part, minus-all, allFF-is, zeroBits-full}
+use Rattle.arrays.specs.Tests.{decide}
+use Rattle.arrays.specs.Bytelist.{Bytes, Overs, overs-length, overs-take, overs-at, zeros-overs, zeros-overs-same, bytes-take, bytes-minus, bytes-ors, ors-over, ands-erased, minus-part, minus-all, allFF-is, zeroBits-full}
 
 -- ---- classes by what they say
 -- Zeros agrees
@@ -165,6 +165,13 @@ module _ (old new lets : List ℕ) (blank : allFF old ≡ true) (lo : length old
   pub program-whole : classOf new ≡ Whole → classOf left ≡ Whole → left ≡ new
   program-whole w c = over-whole left new ln (bytes-minus old (ands (minus old new) lets) yo) program-over w c
 
+  pub program-leaves : classOf new ≡ Whole → (left ≡ new) ⊎ (isWhole (classOf left) ≡ false)
+  program-leaves w = go (decide (isWhole (classOf left)))
+    where
+      go : (isWhole (classOf left) ≡ true) ⊎ (isWhole (classOf left) ≡ false) → (left ≡ new) ⊎ (isWhole (classOf left) ≡ false)
+      go (inl e) = inl (program-whole w (is-whole (classOf left) e))
+      go (inr e) = inr e
+
   pub program-all : left ≡ new → ands (minus old new) lets ≡ minus old new
   program-all e = minus-all old new lets same-length yo yn (e ∙ sym stores)
 
@@ -174,3 +181,10 @@ erase-lean q turned l = lean-over (ors q turned) q (ors-over q turned) l
 
 pub erase-whole : (q turned : List ℕ) → length q ≡ 528 → Bytes q → Bytes turned → Lean q → classOf (ors q turned) ≡ Whole → ors q turned ≡ q
 erase-whole q turned e y t l c = lean-same (ors q turned) q e (bytes-ors q turned y t) (ors-over q turned) l c
+
+pub erase-leaves : (q turned : List ℕ) → length q ≡ 528 → Bytes q → Bytes turned → Lean q → (ors q turned ≡ q) ⊎ (isWhole (classOf (ors q turned)) ≡ false)
+erase-leaves q turned e y t l = go (decide (isWhole (classOf (ors q turned))))
+  where
+    go : (isWhole (classOf (ors q turned)) ≡ true) ⊎ (isWhole (classOf (ors q turned)) ≡ false) → (ors q turned ≡ q) ⊎ (isWhole (classOf (ors q turned)) ≡ false)
+    go (inl w) = inl (erase-whole q turned e y t l (is-whole (classOf (ors q turned)) w))
+    go (inr w) = inr w
