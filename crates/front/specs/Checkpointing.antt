@@ -1,27 +1,25 @@
 -- What a stride of a checkpoint does to the newest checkpoint, done and cut at any bit: nothing until the zone page is whole, and then
 -- the checkpoint that was under way is the newest.
-use Prim.Native.Nat.{ℕ, zero, suc, _+_, _-_, _*_, _/_, _<_, _≤_}
+use Prim.Native.Nat.{ℕ, _+_, _-_, _*_, _/_, _<_, _≤_}
 use native.Mathlib.Omega.{arith}
 use native.Mathlib.Nat.{add-assoc}
 use mathlib.Core.Path.{_≡_, refl, ap, sym, _∙_}
 use mathlib.Core.Logic.{_⊎_, inl, inr, _≢_}
-use mathlib.Core.Bool.{Bool, true, false}
 use mathlib.Core.List.{List}
-use Rattle.model.specs.Page.{pageAt, blankAt}
+use Rattle.model.specs.Page.{pageAt}
 use Rattle.model.specs.Geometry.{mapPages}
 use Rattle.model.specs.Zones.{slide}
 use Rattle.model.specs.Checkpoint.{mapPage, zonePage}
-use Rattle.model.specs.World.{World, Op, none, program, erase, Plan, refuse}
+use Rattle.model.specs.World.{World, Plan, refuse}
 use Rattle.model.specs.Strides.{withWork, withZones, withNumber, frontPage, mapStride, zoneStride, otherStride}
 use Rattle.model.specs.declared.Geometry.{Geometry}
 use Rattle.model.specs.declared.State.{State}
 use Rattle.model.specs.declared.Work.{Work}
 use Rattle.model.specs.declared.Work.the-variants.{Idle, Format, Checkpoint, Reclaim}
 use Rattle.arrays.specs.Pages.{Outside, Where, inside, away, where-is}
-use Rattle.arrays.specs.Ranges.{InGeometry, maps-few}
-use Rattle.front.specs.Base.{InFrame, frame-in}
+use Rattle.arrays.specs.Ranges.{maps-few}
+use Rattle.front.specs.Base.{frame-in}
 use Rattle.front.specs.Complete.{NotWhole}
-use Rattle.front.specs.Local.{SameFront}
 use Rattle.front.specs.Replaced.{Off, KeptOrLost}
 use Rattle.front.specs.ZoneBack.{Fits}
 use Rattle.front.specs.Written.{Saved}
@@ -29,7 +27,7 @@ use Rattle.front.specs.Blocks.{block-of, apart-blocks}
 use Rattle.front.specs.Front.{Front, front-away, front-lost, front-inside}
 use Rattle.front.specs.Way.{Way, clean-not-whole, way-clean, way-away, way-map, way-program-map, way-torn, way-zone}
 use Rattle.front.specs.Effect.{Did, Cut}
-use Rattle.front.specs.Kept.{Resting, Underway, Placed, Kept, calm, placed-rests}
+use Rattle.front.specs.Kept.{Resting, Placed, Kept, calm, placed-rests}
 use Rattle.front.specs.Strides.{after, saving, Accepted, Ready, Stride, refuses, erases, maps, zones}
 
 -- the newest checkpoint once the stride is done

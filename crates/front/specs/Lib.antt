@@ -10,8 +10,14 @@ pub mod Blocks
 pub mod Front
 pub mod Way
 pub mod Recovered
+pub mod Away
 pub mod Kept
 pub mod Effect
 pub mod Strides
 pub mod Checkpointing
 pub mod Moved
+pub mod Programs
+pub mod Calls
+pub mod Formats
+pub mod FormatCalls
+pub mod Examples

@@ -1,5 +1,5 @@
 -- The zones that a checkpoint or a format writes fit in a zone page.
-use Prim.Native.Nat.{ℕ, zero, suc, _+_, _-_, _*_, _<_, _≤_, min}
+use Prim.Native.Nat.{ℕ, zero, suc, _+_, _-_, _≤_}
 use native.Mathlib.Omega.{arith}
 use mathlib.Core.Path.{_≡_, refl, ap}
 use mathlib.Core.Bool.{Bool, true, false, not, cond, _&&_}
@@ -8,7 +8,7 @@ use lib.ListN.{length, getD, take, drop, length-append, length-take, length-drop
 use lib.Dec.{eqb, ltb, leb}
 use borrow.Author.Tests.{leb-true}
 use Rattle.model.specs.Lists.{upFrom, those, keep, without}
-use Rattle.model.specs.Zones.{Taken, availableOf, unavailableOf, freeOf, zonesOf, zoneListsOk, zonesOk, staying, leaving, judged, takeOne, refill, zonesTaken, slide, formatZones, freeIndex, usedIn, scanIn}
+use Rattle.model.specs.Zones.{Taken, availableOf, unavailableOf, freeOf, zoneListsOk, zonesOk, staying, leaving, judged, takeOne, refill, zonesTaken, slide, formatZones, freeIndex}
 use Rattle.model.specs.declared.Geometry.{Geometry}
 use Rattle.model.specs.declared.Place.{Place}
 use Rattle.model.specs.declared.Zones.{Zones}

@@ -1,14 +1,13 @@
 -- What a recover makes of the newest checkpoint: its map, last version, zones, number and block.
-use Prim.Native.Nat.{ℕ, _+_, _/_, max}
-use mathlib.Core.Path.{_≡_, refl, ap, sym, _∙_}
-use mathlib.Core.Bool.{Bool, true, false, not, cond}
+use Prim.Native.Nat.{ℕ, _/_, max}
+use mathlib.Core.Path.{_≡_, _∙_}
+use mathlib.Core.Bool.{true, not, cond}
 use mathlib.Core.List.{List}
-use lib.ListN.{take, replicate}
-use Rattle.model.specs.Geometry.{mapPages}
+use lib.ListN.{replicate}
 use Rattle.model.specs.Zones.{Entry, scanOf}
-use Rattle.model.specs.Checkpoint.{Found, at, newest, numberAt, loadOk, zonesIn}
+use Rattle.model.specs.Checkpoint.{numberAt, loadOk, zonesIn}
 use Rattle.model.specs.Recovery.{pagesGood, top, redone}
-use Rattle.model.specs.World.{World, Plan, refuse}
+use Rattle.model.specs.World.{World, refuse}
 use Rattle.model.specs.Frame.{freePlace, lentOk}
 use Rattle.model.specs.Recover.{entriesAt, zonesAt, floorAt, scannedAt, recoveredMap, recoveredState, recoverPlan, recoverFrom, planRecover}
 use Rattle.model.specs.declared.Geometry.{Geometry}

@@ -1,40 +1,25 @@
 -- The strides of a checkpoint: a call refuses, erases the other front block, or programs a map page or the zone page; what each does, done or cut.
-use Prim.Native.Nat.{ℕ, zero, suc, _+_, _-_, _*_, _/_, _<_, _≤_}
+use Prim.Native.Nat.{ℕ, _+_, _-_, _*_, _<_, _≤_}
 use native.Mathlib.Omega.{arith}
-use native.Mathlib.Nat.{add-assoc}
-use mathlib.Core.Path.{_≡_, refl, ap, sym, _∙_}
-use mathlib.Core.Logic.{_⊎_, inl, inr, _≢_}
-use mathlib.Core.Bool.{Bool, true, false, cond, false≢true}
+use mathlib.Core.Path.{_≡_, refl}
+use mathlib.Core.Bool.{Bool, true, false, cond}
 use mathlib.Core.List.{List}
 use lib.Dec.{ltb, eqb}
 use borrow.Author.Tests.{ltb-true, ltb-false}
-use Rattle.model.specs.Page.{pageAt, blankAt}
 use Rattle.model.specs.Geometry.{mapPages}
 use Rattle.model.specs.Zones.{usedIn, slide}
-use Rattle.model.specs.Checkpoint.{mapPage, zonePage}
-use Rattle.model.specs.World.{World, Op, none, program, erase, Plan, refuse}
+use Rattle.model.specs.World.{World, Plan, refuse}
 use Rattle.model.specs.Answers.{refused}
 use Rattle.model.specs.Frame.{frameOk, gate}
-use Rattle.model.specs.Transactions.{spent, unless}
-use Rattle.model.specs.Strides.{withWork, withZones, withNumber, isCheckpoint, frontPage, mapStride, zoneStride, pageStride, otherStride, firstStride, checkpointStride, planCheckpoint}
-use Rattle.model.specs.declared.Geometry.{Geometry}
-use Rattle.model.specs.declared.State.{State}
+use Rattle.model.specs.Transactions.{spent}
+use Rattle.model.specs.Strides.{isCheckpoint, mapStride, zoneStride, pageStride, otherStride, firstStride, checkpointStride, planCheckpoint}
 use Rattle.model.specs.declared.Work.{Work}
 use Rattle.model.specs.declared.Work.the-variants.{Idle, Format, Checkpoint, Reclaim}
-use Rattle.model.specs.declared.Zones.{Zones}
-use Rattle.arrays.specs.Pages.{Outside, Where, inside, away, where-is}
-use Rattle.arrays.specs.Ranges.{InGeometry, maps-few}
 use Rattle.front.specs.Base.{gate-passes, gate-refuses}
-use Rattle.front.specs.Complete.{NotWhole}
-use Rattle.front.specs.Replaced.{Off, KeptOrLost}
-use Rattle.front.specs.Local.{SameFront}
-use Rattle.front.specs.ZoneBack.{Fits}
 use Rattle.front.specs.Written.{Saved}
-use Rattle.front.specs.Blocks.{block-of, start-block, apart-blocks}
-use Rattle.front.specs.Front.{Front, front-away, front-lost, front-inside}
-use Rattle.front.specs.Way.{Way, clean-not-whole, way-clean, way-first, way-away, way-map, way-program-map, way-torn, way-zone}
-use Rattle.front.specs.Effect.{Did, Cut}
-use Rattle.front.specs.Kept.{Resting, Underway, Placed, Kept}
+use Rattle.front.specs.Front.{Front, front-inside}
+use Rattle.front.specs.Way.{Way, way-first}
+use Rattle.front.specs.Kept.{Resting, Placed, Kept}
 
 -- the world that a plan leaves, if the array is ys then
 abbrev pub after : List ℕ → Plan → World
@@ -67,11 +52,8 @@ pub data Stride (w : World) : Plan → Type 0 where
 module _ (w : World) where
   page-stride : (q i : ℕ) → Accepted w → Ready w q i → i ≤ mapPages (w .state .geometry) → Stride w (pageStride q i w)
   unfolding pageStride
-  page-stride q i a r l = go (ltb i m) refl
+  page-stride q i a r l = go (ltb i (mapPages (w .state .geometry))) refl
     where
-      m : ℕ
-      m = mapPages (w .state .geometry)
-
       go : (b : Bool) → ltb i (mapPages (w .state .geometry)) ≡ b → Stride w (cond b (mapStride q i w) (zoneStride q i w))
       go true e = maps q i a r (ltb-true i (mapPages (w .state .geometry)) e)
       go false e =
@@ -80,11 +62,8 @@ module _ (w : World) where
 
   first-stride : (c : Saved) → Accepted w → Front (w .state .geometry) (w .array) c → Resting (w .state) c → w .state .work ≡ Idle → Stride w (firstStride w)
   unfolding firstStride
-  first-stride c a f h e = go (ltb (w .state .geometry .pages - used) (mapPages (w .state .geometry) + 1)) refl
+  first-stride c a f h e = go (ltb (w .state .geometry .pages - usedIn (w .array) (w .state .geometry .pages) (w .state .front)) (mapPages (w .state .geometry) + 1)) refl
     where
-      used : ℕ
-      used = usedIn (w .array) (w .state .geometry .pages) (w .state .front)
-
       enough : (p u m : ℕ) → m + 1 ≤ p - u → u + m < p
       enough p u m h = omega arith
 
