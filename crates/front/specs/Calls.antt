@@ -10,6 +10,7 @@ use borrow.Author.Tests.{ltb-false}
 use Rattle.model.specs.Page.{blankAt}
 use Rattle.model.specs.Geometry.{mapPages}
 use Rattle.model.specs.Zones.{zonesOk, slide}
+use Rattle.model.specs.Frame.{frameOk}
 use Rattle.model.specs.World.{World, Plan, applyOp, cutOp}
 use Rattle.model.specs.Strides.{withWork, withZones, withNumber, frontPage, mapStride, zoneStride, otherStride, planCheckpoint}
 use Rattle.model.specs.Commands.{checkpoint, plan, carried, exec}
@@ -22,11 +23,11 @@ use Rattle.arrays.specs.Arrays.{Sound, Leans}
 use Rattle.front.specs.Base.{InFrame, frame-in}
 use Rattle.front.specs.Blocks.{in-front}
 use Rattle.front.specs.Away.{InFront}
-use Rattle.front.specs.Written.{Saved}
+use Rattle.front.specs.Written.{Saved, Sane}
 use Rattle.front.specs.Front.{Front}
 use Rattle.front.specs.Effect.{sound-did, sound-cut}
 use Rattle.front.specs.Kept.{Kept}
-use Rattle.front.specs.Strides.{after, Accepted, Ready, Stride, refuses, erases, maps, zones, checkpoint-stride}
+use Rattle.front.specs.Strides.{after, saving, Accepted, Ready, Stride, refuses, erases, maps, zones, checkpoint-stride}
 use Rattle.front.specs.Checkpointing.{newestThen, stride-did, stride-cut}
 use Rattle.front.specs.Moved.{slide-fits}
 use Rattle.front.specs.Programs.{map-page-ok, map-small, zone-page-ok, zones-small}
@@ -36,6 +37,17 @@ pub record Holds (w : World) : Type 0 where
   pub version : w .state .version < 4294967296
   pub zones : zonesOk (w .state .geometry) (w .state .zones) ≡ true
   pub moved : zonesOk (w .state .geometry) (slide (w .state .geometry) (w .array) (w .state .places) (w .state .zones)) ≡ true
+
+-- what it is to hold passes refusal 3
+pub saving-sane : (w : World) (j : ℕ) → frameOk w ≡ true → Holds w → Sane (w .state .geometry) (saving w j)
+unfolding saving
+saving-sane w j e h = let f = frame-in w e in record { long = f .lengths .map; entries = f .map; zones = h .moved }
+
+pub then-sane : (w : World) (c : Saved) → Holds w → Sane (w .state .geometry) c → (l : Plan) (s : Stride w l) → Sane (w .state .geometry) (newestThen s c)
+then-sane w c h e l (refuses n r) = e
+then-sane w c h e l (erases a r) = e
+then-sane w c h e l (maps q i a r b) = e
+then-sane w c h e l (zones q a r) = saving-sane w (w .state .front * w .state .geometry .pages + q) (a .frame) h
 
 -- a stride keeps the geometry
 pub stride-geometry : (w : World) (l : Plan) → Stride w l → l .state .geometry ≡ w .state .geometry

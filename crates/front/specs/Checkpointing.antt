@@ -47,6 +47,7 @@ placed-away xs ys map s c (Checkpoint k) e h =
       within = h .within;
       ends = h .ends;
       begun = h .begun;
+      number = h .number;
       way = way-away (s .geometry) xs ys (s .checkpoint + 1) (s .front * s .geometry .pages + s .first) k map (h .way) (λ i l. e i) (h .within);
     }
 placed-away xs ys map s c Reclaim e h = h
@@ -110,6 +111,7 @@ module _ (w : World) (ys : List ℕ) (c : Saved) (h : Kept w c) where
           within = omega arith;
           ends = omega arith;
           begun = inr refl;
+          number = a .number;
           way = way-clean g ys (w .state .checkpoint + 1) (1 - w .state .front) 0 (w .map) (omega arith) (omega arith) (λ i b l. d .1 i l);
         };
       }
@@ -132,9 +134,9 @@ module _ (w : World) (ys : List ℕ) (c : Saved) (h : Kept w c) where
     next : Way g (w .array) (c .number + 1) j i (w .map)
     next = rw (h .number) (r .way)
 
-    map-did : i < m → Did p (mapStride q i w .op) (w .array) ys → Kept (after ys (mapStride q i w)) c
+    map-did : Accepted w → i < m → Did p (mapStride q i w .op) (w .array) ys → Kept (after ys (mapStride q i w)) c
     unfolding mapStride withWork
-    map-did l d =
+    map-did a l d =
         let v : pageAt ys (j + i) ≡ mapPage (w .map) i (w .state .checkpoint + 1) = rw same-page at (d .1) in
         record {
           front = way-program-map g (w .array) ys c (h .front) j i (w .map) next (off (d .0)) l (inr (rw (h .number) v));
@@ -144,6 +146,7 @@ module _ (w : World) (ys : List ℕ) (c : Saved) (h : Kept w c) where
             within = omega arith;
             ends = r .ends;
             begun = inl (λ e. omega arith);
+            number = a .number;
             way = way-map g (w .array) ys (w .state .checkpoint + 1) j i (w .map) (r .way) l (off (d .0)) v;
           };
         }
@@ -192,7 +195,7 @@ pub stride-did : (w : World) (ys : List ℕ) (c : Saved) → Kept w c → Fits (
     → (l : Plan) (s : Stride w l) → Did (w .state .geometry .pages) (l .op) (w .array) ys → Kept (after ys l) (newestThen s c)
 stride-did w ys c h fit l (refuses n e) d = refused-did w ys c h n d
 stride-did w ys c h fit l (erases a e) d = other-did w ys c h a e d
-stride-did w ys c h fit l (maps q i a r e) d = map-did w ys c h q i r e d
+stride-did w ys c h fit l (maps q i a r e) d = map-did w ys c h q i r a e d
 stride-did w ys c h fit l (zones q a r) d = zone-did w ys c h q fit r d
 
 -- and cut: the newest is as before, or as if it were done

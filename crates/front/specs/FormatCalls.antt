@@ -4,7 +4,7 @@ use native.Mathlib.Omega.{arith}
 use native.Mathlib.Nat.{div-eq-of-lt}
 use mathlib.Core.Path.{_≡_, refl, ap, sym, _∙_, subst}
 use mathlib.Core.Logic.{_⊎_, inl, inr, _≢_}
-use mathlib.Core.Bool.{Bool, true, false, cond, _&&_, _||_}
+use mathlib.Core.Bool.{Bool, true, false, not, cond, _&&_, _||_}
 use native.Mathlib.Decide.{decLt}
 use mathlib.Core.List.{List, [], _∷_, _++_}
 use lib.ListN.{length, replicate, length-replicate}
@@ -12,7 +12,7 @@ use lib.Dec.{ltb, leb}
 use borrow.Author.Tests.{ltb-true, ltb-false, le-leb, lt-ltb}
 use Rattle.model.specs.Lists.{allHeads}
 use Rattle.model.specs.Page.{blankAt}
-use Rattle.model.specs.Geometry.{geometryOk, unmapped, blankMap, mapPages, entryOk, mapOk}
+use Rattle.model.specs.Geometry.{geometryOk, unmapped, blankMap, mapPages, entryOk, mapOk, sameGeometry}
 use Rattle.model.specs.Zones.{zonesOk, formatZones}
 use Rattle.model.specs.Checkpoint.{mapPage, zonePage}
 use Rattle.model.specs.World.{World, Op, program, erase, Plan, refuse, applyOp}
@@ -83,7 +83,7 @@ lent-again g w ys s e l =
     and-both (geometryOk g) _ (and-left (geometryOk g) _ e)
     (in-lengths g ys (replicate (g .logical) unmapped) (w .hold) (record { array = l; map = length-replicate (g .logical) unmapped; hold = lent-lengths g w e .hold }))
 
-module _ (g : Geometry) (w : World) (lent : lentOk g w ≡ true) (ok : zonesOk g (formatZones g) ≡ true) where
+module _ (g : Geometry) (w : World) (lent : lentOk g w ≡ true) (ok : InGeometry g → zonesOk g (formatZones g) ≡ true) where
   hg : InGeometry g
   hg = lent-geometry g w lent
 
@@ -101,7 +101,7 @@ module _ (g : Geometry) (w : World) (lent : lentOk g w ≡ true) (ok : zonesOk g
   stride-leaves k l (erases h) f = inl (unfold formatMore in refl, more-leaves k (erase k) (omega arith) (laid-erase g hg (w .array) k h f))
   stride-leaves k l (maps i e h) f =
       inl (unfold formatMore in refl, more-leaves k (program i (mapPage (blankMap g) i 1)) (omega arith) (rw e at (laid-map g hg (w .array) i (rw e f) h)))
-  stride-leaves k l (last e) f = inr (unfold formatLast in refl, last-leaves (laid-last g hg (w .array) ok (rw e f)))
+  stride-leaves k l (last e) f = inr (unfold formatLast in refl, last-leaves (laid-last g hg (w .array) (ok hg) (rw e f)))
 
 -- ---- a call that is not refused
 module _ (g : Geometry) (w : World) where
@@ -126,7 +126,7 @@ strides-are g w k e = ap (λ (s : State). stridesDone g s (s .work)) e ∙ under
     under = unfold stridesDone withWork freshState in rw (geometry-same g)
 
 -- a call on a world with k strides done that is not refused: what it answers and leaves
-call-leaves : (g : Geometry) (w : World) (k n : ℕ) → zonesOk g (formatZones g) ≡ true → stridesDone g (w .state) (w .state .work) ≡ k → k ≤ g .blocks + mapPages g
+call-leaves : (g : Geometry) (w : World) (k n : ℕ) → (InGeometry g → zonesOk g (formatZones g) ≡ true) → stridesDone g (w .state) (w .state .work) ≡ k → k ≤ g .blocks + mapPages g
     → (lentOk g w ≡ true → Laid g (w .array) k) → n ≢ 1 → exec (format g) w .answer ≡ n
     → ((n ≡ 255) × Formats g (exec (format g) w .world) (k + 1)) ⊎ ((n ≡ 0) × Starts g (exec (format g) w .world))
 call-leaves g w k n ok e l f ne a =
@@ -144,7 +144,7 @@ call-leaves g w k n ok e l f ne a =
     go x (inr h) = inr (answers (formatStride g k w) 0 x (h .0), rw x (h .1))
 
 -- ---- the facts
-module _ (g : Geometry) (ok : zonesOk g (formatZones g) ≡ true) where
+module _ (g : Geometry) (ok : InGeometry g → zonesOk g (formatZones g) ≡ true) where
   -- between two strides
   pub formatting : (w : World) → Formatting g w → (k : ℕ) × Formats g w k
   formatting v (first w e a) = goes (call-leaves g w 0 255 ok e (omega arith) (λ l. laid-start g (lent-geometry g w l) (w .array) (lent-lengths g w l .array)) (omega arith) a)
@@ -205,3 +205,15 @@ formats-stride g w k f =
         let e : g .blocks + (k - g .blocks) ≡ k = omega arith in
         let m = f .most in
         or-right (ltb k (g .blocks)) _ (laid-next g (lent-geometry g w (f .lent)) (w .array) (k - g .blocks) (rw e (f .laid)) (omega arith))
+
+-- once under way it is not refused
+pub format-goes-on : (g : Geometry) (w : World) (k : ℕ) → Formats g w k → planFormat g w ≡ formatStride g k w
+unfolding planFormat
+format-goes-on g w k f =
+    rw (f .lent, work-ok (w .state) (f .state)) (ap (λ (i : ℕ). formatStride g i w) (strides-are g w k (f .state)))
+  where
+    work-ok : (s : State) → s ≡ stateUnder g k → formatWorkOk g w (s .work) ≡ true
+    work-ok s e = ap (λ (t : State). formatWorkOk g w (t .work)) e ∙ under
+      where
+        under : formatWorkOk g w (stateUnder g k .work) ≡ true
+        under = unfold formatWorkOk withWork freshState in or-right (not (sameGeometry g (w .state .geometry))) _ (formats-stride g w k f)

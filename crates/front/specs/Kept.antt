@@ -11,6 +11,7 @@ use borrow.Author.Tests.{lt-ltb, le-leb, eq-eqb, ne-eqb}
 use Rattle.model.specs.Geometry.{mapPages}
 use Rattle.model.specs.World.{World}
 use Rattle.model.specs.Frame.{checkpointStrideOk, workOk}
+use Rattle.model.specs.Transactions.{spent}
 use Rattle.model.specs.Recover.{recoveredState}
 use Rattle.model.specs.declared.Geometry.{Geometry}
 use Rattle.model.specs.declared.State.{State}
@@ -33,6 +34,7 @@ pub record Underway (xs map : List ℕ) (s : State) (k : ℕ) : Type 0 where
   pub within : k ≤ mapPages (s .geometry)
   pub ends : s .first + mapPages (s .geometry) < s .geometry .pages
   pub begun : (k ≢ 0) ⊎ (s .first ≡ 0)
+  pub number : spent (s .checkpoint) 1 ≡ false
   pub way : Way (s .geometry) xs (s .checkpoint + 1) (s .front * s .geometry .pages + s .first) k map
 
 -- the front place by the work under way

@@ -18,6 +18,8 @@ pub mod Checkpointing
 pub mod Moved
 pub mod Programs
 pub mod Calls
+pub mod Again
 pub mod Formats
 pub mod FormatCalls
+pub mod FormatReads
 pub mod Examples

@@ -7,7 +7,7 @@ use lib.ListN.{replicate}
 use Rattle.model.specs.Zones.{Entry, scanOf}
 use Rattle.model.specs.Checkpoint.{numberAt, loadOk, zonesIn}
 use Rattle.model.specs.Recovery.{pagesGood, top, redone}
-use Rattle.model.specs.World.{World, refuse}
+use Rattle.model.specs.World.{World, Plan, refuse}
 use Rattle.model.specs.Frame.{freePlace, lentOk}
 use Rattle.model.specs.Recover.{entriesAt, zonesAt, floorAt, scannedAt, recoveredMap, recoveredState, recoverPlan, recoverFrom, planRecover}
 use Rattle.model.specs.declared.Geometry.{Geometry}
@@ -73,13 +73,17 @@ module _ (g : Geometry) (xs : List ℕ) (c : Saved) (f : Front g xs c) where
     pub front-loads : loadOk g (entriesAt g xs (c .page)) (zonesAt g xs (c .page)) ≡ true
     front-loads = written-loads g xs c (f .fits) (f .written) sane
 
--- a recover goes by the newest checkpoint; it can be refused only for a bad page
-pub recover-front : (g : Geometry) (w : World) (c : Saved) → Front g (w .array) c → Sane g c → lentOk g w ≡ true
-    → planRecover g w ≡ cond (not (pagesGood (g .logical) (scanOf (w .array) (g .pages) (c .zones)))) (refuse w 4) (recoverPlan g (c .page) w)
-unfolding planRecover recoverFrom
+-- the plan of a recover by checkpoint c: it can be refused only for a bad page
+unfoldable pub recoverBy : Geometry → World → Saved → Plan
+recoverBy g w c = cond (not (pagesGood (g .logical) (scanOf (w .array) (g .pages) (c .zones)))) (refuse w 4) (recoverPlan g (c .page) w)
+
+-- a recover goes by the newest checkpoint
+pub recover-front : (g : Geometry) (w : World) (c : Saved) → Front g (w .array) c → Sane g c → lentOk g w ≡ true → planRecover g w ≡ recoverBy g w c
+unfolding planRecover recoverFrom recoverBy
 recover-front g w c f sane l = rw (l, f .found) (rw (front-loads g (w .array) c f sane, front-scan g (w .array) c f))
 
 -- where the scanned pages are good it is done
 pub recover-done : (g : Geometry) (w : World) (c : Saved) → Front g (w .array) c → Sane g c → lentOk g w ≡ true
     → pagesGood (g .logical) (scanOf (w .array) (g .pages) (c .zones)) ≡ true → planRecover g w ≡ recoverPlan g (c .page) w
+unfolding recoverBy
 recover-done g w c f sane l h = recover-front g w c f sane l ∙ rw h

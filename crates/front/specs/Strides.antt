@@ -1,8 +1,8 @@
 -- The strides of a checkpoint: a call refuses, erases the other front block, or programs a map page or the zone page; what each does, done or cut.
 use Prim.Native.Nat.{ℕ, _+_, _-_, _*_, _<_, _≤_}
 use native.Mathlib.Omega.{arith}
-use mathlib.Core.Path.{_≡_, refl}
-use mathlib.Core.Bool.{Bool, true, false, cond}
+use mathlib.Core.Path.{_≡_, refl, ap, _∙_, subst}
+use mathlib.Core.Bool.{Bool, true, false, cond, _||_}
 use mathlib.Core.List.{List}
 use lib.Dec.{ltb, eqb}
 use borrow.Author.Tests.{ltb-true, ltb-false}
@@ -10,8 +10,8 @@ use Rattle.model.specs.Geometry.{mapPages}
 use Rattle.model.specs.Zones.{usedIn, slide}
 use Rattle.model.specs.World.{World, Plan, refuse}
 use Rattle.model.specs.Answers.{refused}
-use Rattle.model.specs.Frame.{frameOk, gate}
-use Rattle.model.specs.Transactions.{spent}
+use Rattle.model.specs.Frame.{frameOk, isIdle, gate}
+use Rattle.model.specs.Transactions.{spent, unless}
 use Rattle.model.specs.Strides.{isCheckpoint, mapStride, zoneStride, pageStride, otherStride, firstStride, checkpointStride, planCheckpoint}
 use Rattle.model.specs.declared.Work.{Work}
 use Rattle.model.specs.declared.Work.the-variants.{Idle, Format, Checkpoint, Reclaim}
@@ -19,7 +19,7 @@ use Rattle.front.specs.Base.{gate-passes, gate-refuses}
 use Rattle.front.specs.Written.{Saved}
 use Rattle.front.specs.Front.{Front, front-inside}
 use Rattle.front.specs.Way.{Way, way-first}
-use Rattle.front.specs.Kept.{Resting, Placed, Kept}
+use Rattle.front.specs.Kept.{Resting, Underway, Placed, Kept}
 
 -- the world that a plan leaves, if the array is ys then
 abbrev pub after : List ℕ → Plan → World
@@ -96,3 +96,24 @@ module _ (w : World) where
       go true e false f =
           some-stride c (record { frame = gate-passes (isCheckpoint (w .state .work)) w e; number = f }) (h .front) (w .state .work) refl (h .place)
       go false e b f = refuses (gate (isCheckpoint (w .state .work)) w) (gate-refuses (isCheckpoint (w .state .work)) w e)
+
+-- ---- once under way it is not refused
+pub gate-own : (w : World) → frameOk w ≡ true → gate true w ≡ 0
+unfolding gate
+gate-own w e = rw e (go (isIdle (w .state .work)))
+  where
+    go : (b : Bool) → _≡_ {A = ℕ} (cond (b || true) 0 17) 0
+    go true = refl
+    go false = refl
+
+accepted : (w : World) (n : ℕ) (b : Bool) (l : Plan) → n ≡ 0 → b ≡ false → unless n w (cond b (refuse w 13) l) ≡ l
+accepted w n b l e f = rw (e, f)
+
+-- "in a sequence only the first can refuse"
+pub checkpoint-goes-on : (w : World) (c : Saved) (k : ℕ) → Kept w c → frameOk w ≡ true → w .state .work ≡ Checkpoint k → planCheckpoint w ≡ pageStride (w .state .first) k w
+unfolding planCheckpoint
+checkpoint-goes-on w c k h e f =
+    let u : Underway (w .array) (w .map) (w .state) k = subst (Placed (w .array) (w .map) (w .state) c) f (h .place) in
+    accepted w (gate (isCheckpoint (w .state .work)) w) (spent (w .state .checkpoint) 1) (checkpointStride w (w .state .work))
+    (ap (λ (k : Work). gate (isCheckpoint k) w) f ∙ gate-own w e) (u .number)
+    ∙ ap (checkpointStride w) f ∙ (unfold checkpointStride in refl)
