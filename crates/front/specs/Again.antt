@@ -19,9 +19,9 @@ use Rattle.front.specs.Written.{Saved, Sane}
 use Rattle.front.specs.Front.{Front}
 use Rattle.front.specs.Recovered.{recoverBy, recover-front}
 use Rattle.front.specs.Kept.{Kept, recovered-kept}
-use Rattle.front.specs.Strides.{after, saving, checkpoint-stride}
-use Rattle.front.specs.Checkpointing.{newestThen}
-use Rattle.front.specs.Calls.{Holds, then-sane, checkpoint-cut}
+use Rattle.front.specs.CheckpointStrides.{after, saving, checkpoint-stride}
+use Rattle.front.specs.CheckpointFront.{newestThen}
+use Rattle.front.specs.CheckpointCalls.{Holds, then-sane, checkpoint-cut}
 
 -- what a recover is handed after a cut
 pub record Handed (g : Geometry) (xs : List ℕ) (v : World) : Type 0 where

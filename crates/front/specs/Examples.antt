@@ -17,7 +17,7 @@ use Rattle.model.specs.Checkpoint.{at, mapPage, mapBytes, zonePage, zoneData, n
 use Rattle.model.specs.declared.Geometry.{Geometry}
 use Rattle.model.specs.declared.Zones.{Zones}
 use Rattle.arrays.specs.Ranges.{InGeometry, geometry-in}
-use Rattle.front.specs.Formats.{Laid, Fresh, laid-start, laid-erase, laid-map, laid-last}
+use Rattle.front.specs.FormatStrides.{Laid, Fresh, laid-start, laid-erase, laid-map, laid-last}
 
 unfoldable someZones : Zones
 someZones = zonesOf (2 ∷ 3 ∷ 4 ∷ []) [] (5 ∷ 6 ∷ 7 ∷ []) 5

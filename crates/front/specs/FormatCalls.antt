@@ -28,7 +28,7 @@ use Rattle.arrays.specs.Ranges.{InGeometry, in-lengths, geometry-same}
 use Rattle.front.specs.Base.{lent-geometry, lent-lengths}
 use Rattle.front.specs.Written.{Sane}
 use Rattle.front.specs.Kept.{Kept}
-use Rattle.front.specs.Formats.{formatSaved, Laid, Fresh, laid-start, laid-erase, laid-next, laid-map, laid-last}
+use Rattle.front.specs.FormatStrides.{formatSaved, Laid, Fresh, laid-start, laid-erase, laid-next, laid-map, laid-last}
 
 -- the state after k strides, and after the last
 abbrev pub stateUnder : Geometry → ℕ → State

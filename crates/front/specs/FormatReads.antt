@@ -20,7 +20,7 @@ use Rattle.model.specs.declared.State.{State}
 use Rattle.arrays.specs.Tests.{and-both}
 use Rattle.arrays.specs.Ranges.{InGeometry}
 use Rattle.front.specs.Base.{lent-geometry}
-use Rattle.front.specs.Strides.{gate-own}
+use Rattle.front.specs.CheckpointStrides.{gate-own}
 use Rattle.front.specs.FormatCalls.{Formats, formatting, stateUnder, blank-map-ok, formats-stride}
 
 -- ---- refusal 1 finds nothing in the state of a format

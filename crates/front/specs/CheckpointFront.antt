@@ -28,7 +28,7 @@ use Rattle.front.specs.Front.{Front, front-away, front-lost, front-insid
 use Rattle.front.specs.Way.{Way, clean-not-whole, way-clean, way-away, way-map, way-program-map, way-torn, way-zone}
 use Rattle.front.specs.Effect.{Did, Cut}
 use Rattle.front.specs.Kept.{Resting, Placed, Kept, calm, placed-rests}
-use Rattle.front.specs.Strides.{after, saving, Accepted, Ready, Stride, refuses, erases, maps, zones}
+use Rattle.front.specs.CheckpointStrides.{after, saving, Accepted, Ready, Stride, refuses, erases, maps, zones}
 
 -- the newest checkpoint once the stride is done
 abbrev pub newestThen : {w : World} {l : Plan} → Stride w l → Saved → Saved

@@ -27,15 +27,14 @@ use Rattle.front.specs.Written.{Saved, Sane}
 use Rattle.front.specs.Front.{Front}
 use Rattle.front.specs.Effect.{sound-did, sound-cut}
 use Rattle.front.specs.Kept.{Kept}
-use Rattle.front.specs.Strides.{after, saving, Accepted, Ready, Stride, refuses, erases, maps, zones, checkpoint-stride}
-use Rattle.front.specs.Checkpointing.{newestThen, stride-did, stride-cut}
+use Rattle.front.specs.CheckpointStrides.{after, saving, Accepted, Ready, Stride, refuses, erases, maps, zones, checkpoint-stride}
+use Rattle.front.specs.CheckpointFront.{newestThen, stride-did, stride-cut}
 use Rattle.front.specs.Moved.{slide-fits}
 use Rattle.front.specs.Programs.{map-page-ok, map-small, zone-page-ok, zones-small}
 
 -- what a checkpoint would hold can be read back
 pub record Holds (w : World) : Type 0 where
   pub version : w .state .version < 4294967296
-  pub zones : zonesOk (w .state .geometry) (w .state .zones) ≡ true
   pub moved : zonesOk (w .state .geometry) (slide (w .state .geometry) (w .array) (w .state .places) (w .state .zones)) ≡ true
 
 -- what it is to hold passes refusal 3
@@ -95,7 +94,7 @@ stride-sound w h l (zones q a r) =
     let li : m ≤ m = omega arith in
     unfold zoneStride in
     zone-page-ok (w .array) (frontPage w q m) m (w .state .version) z (w .state .checkpoint + 1) (next-fits w a q m r li) (next-blank w a q m r li)
-    (slide-fits g (w .array) (w .state .places) (w .state .zones) (f .geometry) (h .zones)) (zones-small g (w .state .version) z (f .geometry) (h .moved) (h .version))
+    (slide-fits g (w .array) (w .state .places) (w .state .zones) (f .geometry) (h .moved)) (zones-small g (w .state .version) z (f .geometry) (h .moved) (h .version))
     (omega (arith, few w a q m r li)) (number-small w a q m r li)
 
 -- its operation is in the front
@@ -128,7 +127,7 @@ module _ (w : World) (c : Saved) (k : Kept w c) (hg : InGeometry (w .state .geom
       let l = planCheckpoint w in
       let p = w .state .geometry .pages in
       same-keeps w l (newestThen does c) p (l .state .geometry .pages) (ap (λ (g : Geometry). g .pages) (stride-geometry w l does))
-      (stride-did w (applyOp p (l .op) (w .array)) c k (slide-fits (w .state .geometry) (w .array) (w .state .places) (w .state .zones) hg (h .zones)) l does
+      (stride-did w (applyOp p (l .op) (w .array)) c k (slide-fits (w .state .geometry) (w .array) (w .state .places) (w .state .zones) hg (h .moved)) l does
       (sound-did p (l .op) (w .array) (stride-sound w h l does)))
 
   -- cut: the newest is as before, or as if the call were done
@@ -139,5 +138,5 @@ module _ (w : World) (c : Saved) (k : Kept w c) (hg : InGeometry (w .state .geom
       let l = planCheckpoint w in
       let p = w .state .geometry .pages in
       same-front (w .state .geometry) w l lets c (newestThen does c) p (l .state .geometry .pages) (ap (λ (g : Geometry). g .pages) (stride-geometry w l does))
-      (stride-cut w (cutOp p (l .op) lets (w .array)) c k (slide-fits (w .state .geometry) (w .array) (w .state .places) (w .state .zones) hg (h .zones)) l does
+      (stride-cut w (cutOp p (l .op) lets (w .array)) c k (slide-fits (w .state .geometry) (w .array) (w .state .places) (w .state .zones) hg (h .moved)) l does
       (sound-cut p (l .op) lets (w .array) y (stride-sound w h l does) s))

@@ -154,7 +154,7 @@ module _ (g : Geometry) (hg : InGeometry g) where
       last-sound =
           let m = mapPages g in
           let l : m ≤ m = omega arith in
-          zone-page-ok xs m m 0 (formatZones g) 1 (any-page-fits g xs (f .long) m (inside-front m f l)) (laid-next m f l) (format-fits g hg)
+          zone-page-ok xs m m 0 (formatZones g) 1 (any-page-fits g xs (f .long) m (inside-front m f l)) (laid-next m f l) (format-fits g hg ok)
           (zones-small g 0 (formatZones g) hg ok (omega arith)) (omega (arith, maps-few g hg)) (omega arith)
 
       last-clean : (i : ℕ) → mapPages g < i → i < g .blocks * g .pages → blankAt (applyOp (g .pages) (program (mapPages g) zone) xs) i ≡ true
@@ -179,7 +179,7 @@ module _ (g : Geometry) (hg : InGeometry g) where
           let two : 2 * g .pages ≤ g .blocks * g .pages = mul-le-mul-right (g .pages) (omega arith) in
           record {
             long = length-apply (g .pages) (program m zone) xs (last-sound .fits) ∙ f .long;
-            front = front-first g ys (formatSaved g) (omega (arith, maps-few g hg)) refl (format-fits g hg) last-written
+            front = front-first g ys (formatSaved g) (omega (arith, maps-few g hg)) refl (format-fits g hg ok) last-written
                 (λ i l h. clean-not-whole ys i (last-clean i l (omega arith)));
             clean = last-clean;
             small = bytes-apply (g .pages) (program m zone) xs (f .small (omega arith));
