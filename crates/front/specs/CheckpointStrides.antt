@@ -1,4 +1,4 @@
--- The strides of a checkpoint: a call refuses, erases the other front block, or programs a map page or the zone page; what each does, done or cut.
+-- The strides of a checkpoint: a call refuses, erases the other front block, or programs a map page or the zone page; once under way it is not refused.
 use Prim.Native.Nat.{ℕ, _+_, _-_, _*_, _<_, _≤_}
 use native.Mathlib.Omega.{arith}
 use mathlib.Core.Path.{_≡_, refl, ap, _∙_, subst}
