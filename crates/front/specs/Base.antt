@@ -1,13 +1,15 @@
 -- What the front needs of lists and of refusal 1, and belongs to no one subject.
-use Prim.Native.Nat.{ℕ, zero, suc, _<_}
+use Prim.Native.Nat.{ℕ, zero, suc, _+_, _*_, _<_}
 use native.Mathlib.Omega.{arith}
-use mathlib.Core.Path.{_≡_, refl, sym}
-use mathlib.Core.Bool.{Bool, true, false, cond, _&&_, _||_, false≢true}
-use mathlib.Core.List.{List}
-use lib.ListN.{replicate}
+use mathlib.Core.Path.{_≡_, refl, sym, ap, _∙_, subst}
+use mathlib.Core.Bool.{Bool, true, false, cond, _||_, false≢true}
+use mathlib.Core.List.{List, [], _∷_}
+use lib.ListN.{length, take, drop, replicate, length-drop, take-append-drop}
+use lib.Seq.{drop-drop}
 use lib.Dec.{ltb, eqb}
 use borrow.Author.Tests.{ltb-true}
-use Rattle.model.specs.Lists.{all}
+use Rattle.model.specs.Lists.{all, part}
+use Rattle.model.specs.Page.{pageAt, blankAt}
 use Rattle.model.specs.Geometry.{geometryOk, lengthsOk, mapOk}
 use Rattle.model.specs.Zones.{zonesOk}
 use Rattle.model.specs.World.{World}
@@ -15,6 +17,7 @@ use Rattle.model.specs.Answers.{refused}
 use Rattle.model.specs.Frame.{lentOk, placesOk, workOk, frameOk, isIdle, gate}
 use Rattle.model.specs.declared.Geometry.{Geometry}
 use Rattle.arrays.specs.Tests.{and-left, and-right}
+use Rattle.arrays.specs.Bytelist.{Bytes, bytes-append, bytes-replicate, allFF-is}
 use Rattle.arrays.specs.Ranges.{InGeometry, InLengths, geometry-in, lengths-in}
 
 -- every one of the same element passes
@@ -81,3 +84,28 @@ gate-refuses own w e = go (frameOk w) (isIdle (w .state .work) || own) e
     go true true e = absurd (false≢true (sym e))
     go true false e = refl
     go false b e = refl
+
+-- ---- an array of n pages
+page-zero : (xs : List ℕ) → take 528 xs ≡ pageAt xs 0
+unfolding pageAt part
+page-zero xs = refl
+
+page-later : (xs : List ℕ) (j : ℕ) → pageAt (drop 528 xs) j ≡ pageAt xs (suc j)
+unfolding pageAt part
+page-later xs j =
+    let e : 528 + j * 528 ≡ suc j * 528 = omega arith in
+    ap (take 528) (drop-drop (j * 528) 528 xs) ∙ ap (λ (k : ℕ). take 528 (drop k xs)) e
+
+-- is bytes where its pages are
+pub bytes-pages : (n : ℕ) (xs : List ℕ) → length xs ≡ n * 528 → ((j : ℕ) → j < n → Bytes (pageAt xs j)) → Bytes xs
+bytes-pages zero [] e h = tt
+bytes-pages zero (x ∷ xs) e h = absurd (omega arith)
+bytes-pages (suc n) xs e h =
+    let l : length (drop 528 xs) ≡ n * 528 = length-drop 528 xs ∙ omega arith in
+    subst Bytes (take-append-drop 528 xs)
+    (bytes-append (take 528 xs) (drop 528 xs) (rw (page-zero xs) (h 0 (omega arith))) (bytes-pages n (drop 528 xs) l (λ j k. rw (page-later xs j) (h (suc j) (omega arith)))))
+
+-- an erased page is bytes
+pub blank-bytes : (xs : List ℕ) (k : ℕ) → blankAt xs k ≡ true → Bytes (pageAt xs k)
+unfolding blankAt
+blank-bytes xs k e = rw (allFF-is (pageAt xs k) e) (bytes-replicate (length (pageAt xs k)) 255 (omega arith))

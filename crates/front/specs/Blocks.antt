@@ -2,12 +2,8 @@
 use Prim.Native.Nat.{ℕ, zero, suc, _+_, _-_, _*_, _/_, _<_, _≤_}
 use native.Mathlib.Omega.{arith}
 use native.Mathlib.Nat.{add-mul, div-eq-of-lt, div-eq-of-lt-le}
-use native.Mathlib.Decide.{ℕ-discrete, decLt}
-use mathlib.Core.Path.{_≡_, refl}
-use mathlib.Core.Bool.{Bool, true, false}
-use mathlib.Core.List.{List}
-use Rattle.model.specs.Page.{blankAt, usedFrom}
-use Rattle.model.specs.Zones.{usedIn}
+use native.Mathlib.Decide.{decLt}
+use mathlib.Core.Path.{_≡_}
 use Rattle.front.specs.Newest.{Start}
 
 -- page q of front block b
@@ -52,18 +48,3 @@ pub in-front : (p b i : ℕ) → b < 2 → i < p → b * p + i < 2 * p
 in-front p zero i l h = omega arith
 in-front p (suc zero) i l h = omega arith
 in-front p (suc (suc b)) i l h = absurd (omega arith)
-
--- the pages behind those used are erased
-used-clean : (xs : List ℕ) (k n i : ℕ) → usedFrom xs k n ≤ i → i < n → blankAt xs (k + i) ≡ true
-unfolding usedFrom
-used-clean xs k zero i h g = absurd (omega arith)
-used-clean xs k (suc n) i h g = go (blankAt xs (k + n)) refl (ℕ-discrete i n) (used-clean xs k n i)
-  where
-    go : (b : Bool) → blankAt xs (k + n) ≡ b → Dec (i ≡ n) → (usedFrom xs k n ≤ i → i < n → blankAt xs (k + i) ≡ true) → blankAt xs (k + i) ≡ true
-    go true e (yes q) ih = rw q e
-    go true e (no q) ih = let u : usedFrom xs k n ≤ i = rw e at h in ih u (omega arith)
-    go false e q ih = let u : suc n ≤ i = rw e at h in absurd (omega arith)
-
-pub block-clean : (xs : List ℕ) (p b i : ℕ) → usedIn xs p b ≤ i → i < p → blankAt xs (b * p + i) ≡ true
-unfolding usedIn
-block-clean xs p b i h l = used-clean xs (b * p) p i h l

@@ -1,11 +1,11 @@
 -- What a sequence keeps of the two front blocks: the newest checkpoint, as it was programmed, with no zone page of a higher number.
-use Prim.Native.Nat.{ℕ, zero, suc, _+_, _-_, _*_, _/_, _<_, _≤_}
+use Prim.Native.Nat.{ℕ, _+_, _*_, _/_, _<_, _≤_}
 use native.Mathlib.Omega.{arith}
-use mathlib.Core.Path.{_≡_, refl, ap, sym, _∙_}
+use mathlib.Core.Path.{_≡_, _∙_}
 use mathlib.Core.List.{List}
 use Rattle.model.specs.Page.{pageAt}
 use Rattle.model.specs.Geometry.{mapPages}
-use Rattle.model.specs.Checkpoint.{at, newest, mapSpare, zoneSpare, mapPage, zonePage}
+use Rattle.model.specs.Checkpoint.{at, newest, mapSpare, mapPage}
 use Rattle.model.specs.declared.Geometry.{Geometry}
 use Rattle.front.specs.Complete.{Complete, IsPage, NotWhole, complete-whole}
 use Rattle.front.specs.Newest.{Start}

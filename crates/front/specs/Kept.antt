@@ -1,18 +1,18 @@
 -- The newest checkpoint and the state: the state's last is the newest, and its front place is right for the work under way.
-use Prim.Native.Nat.{ℕ, zero, suc, _+_, _-_, _*_, _/_, _<_, _≤_}
+use Prim.Native.Nat.{ℕ, _+_, _*_, _/_, _<_, _≤_}
 use native.Mathlib.Omega.{arith}
 use native.Mathlib.Nat.{add-assoc}
 use mathlib.Core.Path.{_≡_, refl, ap, sym, _∙_}
 use mathlib.Core.Logic.{_⊎_, inl, inr, _≢_}
-use mathlib.Core.Bool.{Bool, true, false, not, _&&_, _||_, false≢true}
+use mathlib.Core.Bool.{Bool, true, false, not, _||_, false≢true}
 use mathlib.Core.List.{List}
-use lib.Dec.{leb, ltb, eqb}
+use lib.Dec.{eqb}
 use borrow.Author.Tests.{lt-ltb, le-leb, eq-eqb, ne-eqb}
-use Rattle.model.specs.Page.{pageAt, blankAt}
 use Rattle.model.specs.Geometry.{mapPages}
-use Rattle.model.specs.World.{World, Plan}
+use Rattle.model.specs.World.{World}
 use Rattle.model.specs.Frame.{checkpointStrideOk, workOk}
-use Rattle.model.specs.Recover.{recoveredState, recoverPlan}
+use Rattle.model.specs.Transactions.{spent}
+use Rattle.model.specs.Recover.{recoveredState}
 use Rattle.model.specs.declared.Geometry.{Geometry}
 use Rattle.model.specs.declared.State.{State}
 use Rattle.model.specs.declared.Work.{Work}
@@ -21,7 +21,7 @@ use Rattle.arrays.specs.Tests.{and-both, or-left, or-right}
 use Rattle.front.specs.Local.{SameFront}
 use Rattle.front.specs.Written.{Saved, written-number}
 use Rattle.front.specs.Front.{Front, front-away, front-inside}
-use Rattle.front.specs.Way.{Way, way-away}
+use Rattle.front.specs.Way.{Way}
 
 -- no checkpoint is under way: the front block is that of the newest
 pub record Resting (s : State) (c : Saved) : Type 0 where
@@ -34,6 +34,7 @@ pub record Underway (xs map : List ℕ) (s : State) (k : ℕ) : Type 0 where
   pub within : k ≤ mapPages (s .geometry)
   pub ends : s .first + mapPages (s .geometry) < s .geometry .pages
   pub begun : (k ≢ 0) ⊎ (s .first ≡ 0)
+  pub number : spent (s .checkpoint) 1 ≡ false
   pub way : Way (s .geometry) xs (s .checkpoint + 1) (s .front * s .geometry .pages + s .first) k map
 
 -- the front place by the work under way

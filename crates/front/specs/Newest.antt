@@ -6,11 +6,10 @@ use mathlib.Core.Logic.{_≢_}
 use native.Mathlib.Decide.{ℕ-discrete}
 use mathlib.Core.Bool.{Bool, true, false, cond, _&&_, false≢true}
 use mathlib.Core.List.{List}
-use lib.Dec.{eqb, ltb}
-use borrow.Author.Tests.{eqb-true, eqb-false, ltb-true, ltb-false}
-use Rattle.model.specs.Page.{pageAt, dataAt}
-use Rattle.model.specs.Checkpoint.{Found, nothing, at, completeAt, numberAt, newer, newestFrom, newest, loadMap, mapSpare, zoneSpare}
-use Rattle.front.specs.Complete.{Complete, IsPage, NotWhole, complete-says, complete-number, complete-test, complete-same, complete-whole, not-page}
+use lib.Dec.{ltb}
+use borrow.Author.Tests.{ltb-true, ltb-false}
+use Rattle.model.specs.Checkpoint.{Found, nothing, at, completeAt, numberAt, newer, newestFrom, newest}
+use Rattle.front.specs.Complete.{Complete, complete-says, complete-number, complete-test}
 
 -- a checkpoint with m map pages fits from page i on, in one front block of p pages
 pub record Start (m p i : ℕ) : Type 0 where

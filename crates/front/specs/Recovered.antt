@@ -1,12 +1,11 @@
 -- What a recover makes of the newest checkpoint: its map, last version, zones, number and block.
-use Prim.Native.Nat.{ℕ, _+_, _/_, max}
-use mathlib.Core.Path.{_≡_, refl, ap, sym, _∙_}
-use mathlib.Core.Bool.{Bool, true, false, not, cond}
+use Prim.Native.Nat.{ℕ, _/_, max}
+use mathlib.Core.Path.{_≡_, _∙_}
+use mathlib.Core.Bool.{true, not, cond}
 use mathlib.Core.List.{List}
-use lib.ListN.{take, replicate}
-use Rattle.model.specs.Geometry.{mapPages}
+use lib.ListN.{replicate}
 use Rattle.model.specs.Zones.{Entry, scanOf}
-use Rattle.model.specs.Checkpoint.{Found, at, newest, numberAt, loadOk, zonesIn}
+use Rattle.model.specs.Checkpoint.{numberAt, loadOk, zonesIn}
 use Rattle.model.specs.Recovery.{pagesGood, top, redone}
 use Rattle.model.specs.World.{World, Plan, refuse}
 use Rattle.model.specs.Frame.{freePlace, lentOk}
@@ -74,13 +73,17 @@ module _ (g : Geometry) (xs : List ℕ) (c : Saved) (f : Front g xs c) where
     pub front-loads : loadOk g (entriesAt g xs (c .page)) (zonesAt g xs (c .page)) ≡ true
     front-loads = written-loads g xs c (f .fits) (f .written) sane
 
--- a recover goes by the newest checkpoint; it can be refused only for a bad page
-pub recover-front : (g : Geometry) (w : World) (c : Saved) → Front g (w .array) c → Sane g c → lentOk g w ≡ true
-    → planRecover g w ≡ cond (not (pagesGood (g .logical) (scanOf (w .array) (g .pages) (c .zones)))) (refuse w 4) (recoverPlan g (c .page) w)
-unfolding planRecover recoverFrom
+-- the plan of a recover by checkpoint c: it can be refused only for a bad page
+unfoldable pub recoverBy : Geometry → World → Saved → Plan
+recoverBy g w c = cond (not (pagesGood (g .logical) (scanOf (w .array) (g .pages) (c .zones)))) (refuse w 4) (recoverPlan g (c .page) w)
+
+-- a recover goes by the newest checkpoint
+pub recover-front : (g : Geometry) (w : World) (c : Saved) → Front g (w .array) c → Sane g c → lentOk g w ≡ true → planRecover g w ≡ recoverBy g w c
+unfolding planRecover recoverFrom recoverBy
 recover-front g w c f sane l = rw (l, f .found) (rw (front-loads g (w .array) c f sane, front-scan g (w .array) c f))
 
 -- where the scanned pages are good it is done
 pub recover-done : (g : Geometry) (w : World) (c : Saved) → Front g (w .array) c → Sane g c → lentOk g w ≡ true
     → pagesGood (g .logical) (scanOf (w .array) (g .pages) (c .zones)) ≡ true → planRecover g w ≡ recoverPlan g (c .page) w
+unfolding recoverBy
 recover-done g w c f sane l h = recover-front g w c f sane l ∙ rw h

@@ -1,16 +1,16 @@
 -- One page of the front is replaced, or pages are lost: nothing changes but by a zone page that completes a checkpoint,
 -- and then that one is the newest.
-use Prim.Native.Nat.{ℕ, zero, suc, _+_, _-_, _*_, _<_, _≤_}
+use Prim.Native.Nat.{ℕ, _+_, _-_, _*_, _<_, _≤_}
 use native.Mathlib.Omega.{arith}
 use native.Mathlib.Nat.{zero-add}
 use native.Mathlib.Decide.{ℕ-discrete, decLt}
-use mathlib.Core.Path.{_≡_, refl, ap, sym, _∙_}
+use mathlib.Core.Path.{_≡_, ap, sym, _∙_}
 use mathlib.Core.Logic.{_⊎_, inl, inr, _≢_}
 use mathlib.Core.List.{List}
 use Rattle.model.specs.Page.{pageAt}
-use Rattle.model.specs.Checkpoint.{Found, nothing, at, numberAt, newest, mapSpare, zoneSpare}
+use Rattle.model.specs.Checkpoint.{at, newest, mapSpare, zoneSpare}
 use Rattle.model.specs.declared.Spare.{Spare}
-use Rattle.front.specs.Complete.{Complete, IsPage, NotWhole, complete-number, complete-same, complete-whole, not-page}
+use Rattle.front.specs.Complete.{Complete, IsPage, NotWhole, complete-same, complete-whole, not-page}
 use Rattle.front.specs.Newest.{Start, newest-is}
 use Rattle.front.specs.Local.{newest-fewer, newest-alike}
 

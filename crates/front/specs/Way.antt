@@ -1,25 +1,26 @@
 -- A checkpoint under way: its map pages so far, the pages from the next to its last erased; each program of it, done or cut.
-use Prim.Native.Nat.{ℕ, zero, suc, _+_, _-_, _*_, _/_, _<_, _≤_}
+use Prim.Native.Nat.{ℕ, _+_, _*_, _<_, _≤_}
 use native.Mathlib.Omega.{arith}
 use native.Mathlib.Nat.{add-assoc}
 use native.Mathlib.Decide.{ℕ-discrete}
-use mathlib.Core.Path.{_≡_, refl, ap, sym, _∙_}
-use mathlib.Core.Logic.{_⊎_, inl, inr, _≢_}
+use mathlib.Core.Path.{_≡_, _∙_}
+use mathlib.Core.Logic.{_⊎_, inl, inr}
 use mathlib.Core.Bool.{true}
 use mathlib.Core.List.{List}
 use Rattle.model.specs.Page.{classOf, pageAt, blankAt}
 use Rattle.model.specs.Geometry.{mapPages}
 use Rattle.model.specs.Zones.{usedIn}
-use Rattle.model.specs.Checkpoint.{at, newest, mapSpare, zoneSpare, mapPage, zonePage}
+use Rattle.model.specs.Checkpoint.{mapSpare, zoneSpare, mapPage, zonePage}
 use Rattle.model.specs.declared.Geometry.{Geometry}
 use Rattle.arrays.specs.Pages.{blank-same}
+use Rattle.arrays.specs.Used.{used-in-clean}
 use Rattle.front.specs.Complete.{IsPage, NotWhole}
 use Rattle.front.specs.Newest.{Start}
 use Rattle.front.specs.Local.{SameFront}
 use Rattle.front.specs.Replaced.{Off, newest-zone, below-zone}
 use Rattle.front.specs.ZoneBack.{Fits}
-use Rattle.front.specs.Written.{Saved, Written, map-page-is, zone-page-is}
-use Rattle.front.specs.Blocks.{start-in, block-clean}
+use Rattle.front.specs.Written.{Saved, map-page-is, zone-page-is}
+use Rattle.front.specs.Blocks.{start-in}
 use Rattle.front.specs.Front.{Front, front-torn, front-map}
 
 -- a checkpoint of number n is under way from page j on, k of its map pages are programmed, its other pages erased
@@ -47,7 +48,7 @@ way-clean g xs n b q map l h e =
 -- where the clean pages of a front block suffice
 pub way-first : (g : Geometry) (xs : List ℕ) (n b : ℕ) (map : List ℕ) → b < 2 → usedIn xs (g .pages) b + mapPages g < g .pages
     → Way g xs n (b * g .pages + usedIn xs (g .pages) b) 0 map
-way-first g xs n b map l h = way-clean g xs n b (usedIn xs (g .pages) b) map l h (λ i a k. block-clean xs (g .pages) b i a k)
+way-first g xs n b map l h = way-clean g xs n b (usedIn xs (g .pages) b) map l h (λ i a k. used-in-clean xs (g .pages) b i a k)
 
 -- ---- it goes on
 module _ (g : Geometry) (xs ys : List ℕ) (n j k : ℕ) (map : List ℕ) (w : Way g xs n j k map) where

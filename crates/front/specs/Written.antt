@@ -1,9 +1,9 @@
 -- A checkpoint as it was programmed is complete, reads back as it was, and passes refusal 3.
-use Prim.Native.Nat.{ℕ, zero, suc, _+_, _-_, _*_, _<_, _≤_}
+use Prim.Native.Nat.{ℕ, _+_, _-_, _*_, _<_, _≤_}
 use native.Mathlib.Omega.{arith}
-use mathlib.Core.Path.{_≡_, refl, ap, sym, _∙_}
-use mathlib.Core.Bool.{Bool, true, _&&_}
-use mathlib.Core.List.{List, [], _∷_, _++_}
+use mathlib.Core.Path.{_≡_, refl, ap, _∙_}
+use mathlib.Core.Bool.{true}
+use mathlib.Core.List.{List, _++_}
 use lib.ListN.{length, take, drop, getD, replicate}
 use lib.Seq.{take-at, drop-at}
 use lib.Dec.{eqb}
@@ -11,7 +11,7 @@ use Rattle.model.specs.Lists.{all}
 use Rattle.model.specs.Bytes.{le32}
 use Rattle.model.specs.Page.{isWhole, pageAt, dataAt}
 use Rattle.model.specs.Geometry.{unmapped, mapOk, mapPages}
-use Rattle.model.specs.Zones.{availableOf, unavailableOf, zoneListsOk, zonesOk, scanIn, scanOf}
+use Rattle.model.specs.Zones.{zoneListsOk, zonesOk, scanOf}
 use Rattle.model.specs.Checkpoint.{numberAt, mapSpare, zoneSpare, mapPage, zonePage, zoneData, mapBytes, availableIn, unavailableIn, freeIn, zonesIn, loadOk}
 use Rattle.model.specs.Recover.{entriesAt, zonesAt, floorAt, scannedAt}
 use Rattle.model.specs.declared.Geometry.{Geometry}

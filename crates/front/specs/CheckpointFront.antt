@@ -1,27 +1,25 @@
 -- What a stride of a checkpoint does to the newest checkpoint, done and cut at any bit: nothing until the zone page is whole, and then
 -- the checkpoint that was under way is the newest.
-use Prim.Native.Nat.{ℕ, zero, suc, _+_, _-_, _*_, _/_, _<_, _≤_}
+use Prim.Native.Nat.{ℕ, _+_, _-_, _*_, _/_, _<_, _≤_}
 use native.Mathlib.Omega.{arith}
 use native.Mathlib.Nat.{add-assoc}
 use mathlib.Core.Path.{_≡_, refl, ap, sym, _∙_}
 use mathlib.Core.Logic.{_⊎_, inl, inr, _≢_}
-use mathlib.Core.Bool.{Bool, true, false}
 use mathlib.Core.List.{List}
-use Rattle.model.specs.Page.{pageAt, blankAt}
+use Rattle.model.specs.Page.{pageAt}
 use Rattle.model.specs.Geometry.{mapPages}
 use Rattle.model.specs.Zones.{slide}
 use Rattle.model.specs.Checkpoint.{mapPage, zonePage}
-use Rattle.model.specs.World.{World, Op, none, program, erase, Plan, refuse}
+use Rattle.model.specs.World.{World, Plan, refuse}
 use Rattle.model.specs.Strides.{withWork, withZones, withNumber, frontPage, mapStride, zoneStride, otherStride}
 use Rattle.model.specs.declared.Geometry.{Geometry}
 use Rattle.model.specs.declared.State.{State}
 use Rattle.model.specs.declared.Work.{Work}
 use Rattle.model.specs.declared.Work.the-variants.{Idle, Format, Checkpoint, Reclaim}
 use Rattle.arrays.specs.Pages.{Outside, Where, inside, away, where-is}
-use Rattle.arrays.specs.Ranges.{InGeometry, maps-few}
-use Rattle.front.specs.Base.{InFrame, frame-in}
+use Rattle.arrays.specs.Ranges.{maps-few}
+use Rattle.front.specs.Base.{frame-in}
 use Rattle.front.specs.Complete.{NotWhole}
-use Rattle.front.specs.Local.{SameFront}
 use Rattle.front.specs.Replaced.{Off, KeptOrLost}
 use Rattle.front.specs.ZoneBack.{Fits}
 use Rattle.front.specs.Written.{Saved}
@@ -29,8 +27,8 @@ use Rattle.front.specs.Blocks.{block-of, apart-blocks}
 use Rattle.front.specs.Front.{Front, front-away, front-lost, front-inside}
 use Rattle.front.specs.Way.{Way, clean-not-whole, way-clean, way-away, way-map, way-program-map, way-torn, way-zone}
 use Rattle.front.specs.Effect.{Did, Cut}
-use Rattle.front.specs.Kept.{Resting, Underway, Placed, Kept, calm, placed-rests}
-use Rattle.front.specs.Strides.{after, saving, Accepted, Ready, Stride, refuses, erases, maps, zones}
+use Rattle.front.specs.Kept.{Resting, Placed, Kept, calm, placed-rests}
+use Rattle.front.specs.CheckpointStrides.{after, saving, Accepted, Ready, Stride, refuses, erases, maps, zones}
 
 -- the newest checkpoint once the stride is done
 abbrev pub newestThen : {w : World} {l : Plan} → Stride w l → Saved → Saved
@@ -49,6 +47,7 @@ placed-away xs ys map s c (Checkpoint k) e h =
       within = h .within;
       ends = h .ends;
       begun = h .begun;
+      number = h .number;
       way = way-away (s .geometry) xs ys (s .checkpoint + 1) (s .front * s .geometry .pages + s .first) k map (h .way) (λ i l. e i) (h .within);
     }
 placed-away xs ys map s c Reclaim e h = h
@@ -112,6 +111,7 @@ module _ (w : World) (ys : List ℕ) (c : Saved) (h : Kept w c) where
           within = omega arith;
           ends = omega arith;
           begun = inr refl;
+          number = a .number;
           way = way-clean g ys (w .state .checkpoint + 1) (1 - w .state .front) 0 (w .map) (omega arith) (omega arith) (λ i b l. d .1 i l);
         };
       }
@@ -134,9 +134,9 @@ module _ (w : World) (ys : List ℕ) (c : Saved) (h : Kept w c) where
     next : Way g (w .array) (c .number + 1) j i (w .map)
     next = rw (h .number) (r .way)
 
-    map-did : i < m → Did p (mapStride q i w .op) (w .array) ys → Kept (after ys (mapStride q i w)) c
+    map-did : Accepted w → i < m → Did p (mapStride q i w .op) (w .array) ys → Kept (after ys (mapStride q i w)) c
     unfolding mapStride withWork
-    map-did l d =
+    map-did a l d =
         let v : pageAt ys (j + i) ≡ mapPage (w .map) i (w .state .checkpoint + 1) = rw same-page at (d .1) in
         record {
           front = way-program-map g (w .array) ys c (h .front) j i (w .map) next (off (d .0)) l (inr (rw (h .number) v));
@@ -146,6 +146,7 @@ module _ (w : World) (ys : List ℕ) (c : Saved) (h : Kept w c) where
             within = omega arith;
             ends = r .ends;
             begun = inl (λ e. omega arith);
+            number = a .number;
             way = way-map g (w .array) ys (w .state .checkpoint + 1) j i (w .map) (r .way) l (off (d .0)) v;
           };
         }
@@ -194,7 +195,7 @@ pub stride-did : (w : World) (ys : List ℕ) (c : Saved) → Kept w c → Fits (
     → (l : Plan) (s : Stride w l) → Did (w .state .geometry .pages) (l .op) (w .array) ys → Kept (after ys l) (newestThen s c)
 stride-did w ys c h fit l (refuses n e) d = refused-did w ys c h n d
 stride-did w ys c h fit l (erases a e) d = other-did w ys c h a e d
-stride-did w ys c h fit l (maps q i a r e) d = map-did w ys c h q i r e d
+stride-did w ys c h fit l (maps q i a r e) d = map-did w ys c h q i r a e d
 stride-did w ys c h fit l (zones q a r) d = zone-did w ys c h q fit r d
 
 -- and cut: the newest is as before, or as if it were done

@@ -1,39 +1,24 @@
--- The strides of a checkpoint: a call refuses, erases the other front block, or programs a map page or the zone page; what each does, done or cut.
-use Prim.Native.Nat.{ℕ, zero, suc, _+_, _-_, _*_, _/_, _<_, _≤_}
+-- The strides of a checkpoint: a call refuses, erases the other front block, or programs a map page or the zone page; once under way it is not refused.
+use Prim.Native.Nat.{ℕ, _+_, _-_, _*_, _<_, _≤_}
 use native.Mathlib.Omega.{arith}
-use native.Mathlib.Nat.{add-assoc}
-use mathlib.Core.Path.{_≡_, refl, ap, sym, _∙_}
-use mathlib.Core.Logic.{_⊎_, inl, inr, _≢_}
-use mathlib.Core.Bool.{Bool, true, false, cond, false≢true}
+use mathlib.Core.Path.{_≡_, refl, ap, _∙_, subst}
+use mathlib.Core.Bool.{Bool, true, false, cond, _||_}
 use mathlib.Core.List.{List}
 use lib.Dec.{ltb, eqb}
 use borrow.Author.Tests.{ltb-true, ltb-false}
-use Rattle.model.specs.Page.{pageAt, blankAt}
 use Rattle.model.specs.Geometry.{mapPages}
 use Rattle.model.specs.Zones.{usedIn, slide}
-use Rattle.model.specs.Checkpoint.{mapPage, zonePage}
-use Rattle.model.specs.World.{World, Op, none, program, erase, Plan, refuse}
+use Rattle.model.specs.World.{World, Plan, refuse}
 use Rattle.model.specs.Answers.{refused}
-use Rattle.model.specs.Frame.{frameOk, gate}
+use Rattle.model.specs.Frame.{frameOk, isIdle, gate}
 use Rattle.model.specs.Transactions.{spent, unless}
-use Rattle.model.specs.Strides.{withWork, withZones, withNumber, isCheckpoint, frontPage, mapStride, zoneStride, pageStride, otherStride, firstStride, checkpointStride, planCheckpoint}
-use Rattle.model.specs.declared.Geometry.{Geometry}
-use Rattle.model.specs.declared.State.{State}
+use Rattle.model.specs.Strides.{isCheckpoint, mapStride, zoneStride, pageStride, otherStride, firstStride, checkpointStride, planCheckpoint}
 use Rattle.model.specs.declared.Work.{Work}
 use Rattle.model.specs.declared.Work.the-variants.{Idle, Format, Checkpoint, Reclaim}
-use Rattle.model.specs.declared.Zones.{Zones}
-use Rattle.arrays.specs.Pages.{Outside, Where, inside, away, where-is}
-use Rattle.arrays.specs.Ranges.{InGeometry, maps-few}
 use Rattle.front.specs.Base.{gate-passes, gate-refuses}
-use Rattle.front.specs.Complete.{NotWhole}
-use Rattle.front.specs.Replaced.{Off, KeptOrLost}
-use Rattle.front.specs.Local.{SameFront}
-use Rattle.front.specs.ZoneBack.{Fits}
 use Rattle.front.specs.Written.{Saved}
-use Rattle.front.specs.Blocks.{block-of, start-block, apart-blocks}
-use Rattle.front.specs.Front.{Front, front-away, front-lost, front-inside}
-use Rattle.front.specs.Way.{Way, clean-not-whole, way-clean, way-first, way-away, way-map, way-program-map, way-torn, way-zone}
-use Rattle.front.specs.Effect.{Did, Cut}
+use Rattle.front.specs.Front.{Front, front-inside}
+use Rattle.front.specs.Way.{Way, way-first}
 use Rattle.front.specs.Kept.{Resting, Underway, Placed, Kept}
 
 -- the world that a plan leaves, if the array is ys then
@@ -67,11 +52,8 @@ pub data Stride (w : World) : Plan → Type 0 where
 module _ (w : World) where
   page-stride : (q i : ℕ) → Accepted w → Ready w q i → i ≤ mapPages (w .state .geometry) → Stride w (pageStride q i w)
   unfolding pageStride
-  page-stride q i a r l = go (ltb i m) refl
+  page-stride q i a r l = go (ltb i (mapPages (w .state .geometry))) refl
     where
-      m : ℕ
-      m = mapPages (w .state .geometry)
-
       go : (b : Bool) → ltb i (mapPages (w .state .geometry)) ≡ b → Stride w (cond b (mapStride q i w) (zoneStride q i w))
       go true e = maps q i a r (ltb-true i (mapPages (w .state .geometry)) e)
       go false e =
@@ -80,11 +62,8 @@ module _ (w : World) where
 
   first-stride : (c : Saved) → Accepted w → Front (w .state .geometry) (w .array) c → Resting (w .state) c → w .state .work ≡ Idle → Stride w (firstStride w)
   unfolding firstStride
-  first-stride c a f h e = go (ltb (w .state .geometry .pages - used) (mapPages (w .state .geometry) + 1)) refl
+  first-stride c a f h e = go (ltb (w .state .geometry .pages - usedIn (w .array) (w .state .geometry .pages) (w .state .front)) (mapPages (w .state .geometry) + 1)) refl
     where
-      used : ℕ
-      used = usedIn (w .array) (w .state .geometry .pages) (w .state .front)
-
       enough : (p u m : ℕ) → m + 1 ≤ p - u → u + m < p
       enough p u m h = omega arith
 
@@ -117,3 +96,24 @@ module _ (w : World) where
       go true e false f =
           some-stride c (record { frame = gate-passes (isCheckpoint (w .state .work)) w e; number = f }) (h .front) (w .state .work) refl (h .place)
       go false e b f = refuses (gate (isCheckpoint (w .state .work)) w) (gate-refuses (isCheckpoint (w .state .work)) w e)
+
+-- ---- once under way it is not refused
+pub gate-own : (w : World) → frameOk w ≡ true → gate true w ≡ 0
+unfolding gate
+gate-own w e = rw e (go (isIdle (w .state .work)))
+  where
+    go : (b : Bool) → _≡_ {A = ℕ} (cond (b || true) 0 17) 0
+    go true = refl
+    go false = refl
+
+accepted : (w : World) (n : ℕ) (b : Bool) (l : Plan) → n ≡ 0 → b ≡ false → unless n w (cond b (refuse w 13) l) ≡ l
+accepted w n b l e f = rw (e, f)
+
+-- "in a sequence only the first can refuse"
+pub checkpoint-goes-on : (w : World) (c : Saved) (k : ℕ) → Kept w c → frameOk w ≡ true → w .state .work ≡ Checkpoint k → planCheckpoint w ≡ pageStride (w .state .first) k w
+unfolding planCheckpoint
+checkpoint-goes-on w c k h e f =
+    let u : Underway (w .array) (w .map) (w .state) k = subst (Placed (w .array) (w .map) (w .state) c) f (h .place) in
+    accepted w (gate (isCheckpoint (w .state .work)) w) (spent (w .state .checkpoint) 1) (checkpointStride w (w .state .work))
+    (ap (λ (k : Work). gate (isCheckpoint k) w) f ∙ gate-own w e) (u .number)
+    ∙ ap (checkpointStride w) f ∙ (unfold checkpointStride in refl)
