@@ -20,7 +20,6 @@ use Rattle.scanlog.specs.Good.{dataEntry}
 use Rattle.scanlog.specs.Logged.{Logged}
 use Rattle.scanlog.specs.Open.{laid, Opens}
 use Rattle.scanlog.specs.Tidy.{Tidy}
-use Rattle.scanlog.specs.LogAt.{LogAt}
 use Rattle.scanlog.specs.Reclaim.{Going}
 
 -- ---- eight blocks of one page
@@ -70,10 +69,6 @@ tidy5 = record { ok = refl; order = ((λ l. (refl, tt)), ((λ l. tt), tt)); blan
 logged1 : Logged 1 0 (65535 ∷ []) (dataEntry 2 0 0 5 0 ∷ []) (65535 ∷ []) 0
 unfolding pagesGood allHeads entryGood markNew all top redone applied span txnsIn committed pagesOf ofId those enter
 logged1 = record { good = refl; made = refl; last = refl }
-
-log-at5 : LogAt shape8 0 (65535 ∷ []) after5 zones8 (place5 ∷ []) (65535 ∷ []) 0
-unfolding shape8
-log-at5 = record { tidy = tidy5; logged = rw scanned5 logged1; opens = rw scanned5 opens5 }
 
 -- reclaim would pick block 6, which has nothing to copy
 going6 : Going shape8 zones8 after5 (65535 ∷ []) 0 6

@@ -14,7 +14,6 @@ pub mod Slide
 pub mod Tidy
 pub mod Free
 pub mod Start
-pub mod LogAt
 pub mod Pick
 pub mod Reclaim
 pub mod Examples

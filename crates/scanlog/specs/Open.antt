@@ -2,23 +2,23 @@
 -- keeps that, and a commit enters them in the map as redoing its transaction does.
 use mathlib.Core.Path.{_≡_, refl, sym, ap, _∙_, subst}
 use mathlib.Core.Logic.{_⊎_, inl, inr, _≢_}
-use mathlib.Core.Bool.{true, false, not, _&&_}
+use mathlib.Core.Bool.{Bool, true, false, not, _&&_}
 use Prim.Native.Nat.{ℕ, zero, suc, _+_, _-_, _≤_, _<_}
 use native.Mathlib.Omega.{arith}
 use mathlib.Core.List.{List, [], _∷_, _++_}
 use lib.ListN.{length, getD, set, length-set, length-append}
 use lib.Seq.{getD-set-same, getD-set-other}
 use lib.Dec.{eqb}
-use borrow.Author.Tests.{eqb-true, eqb-false, ne-eqb, not-true}
-use Rattle.model.specs.Lists.{all, allTails, those}
+use borrow.Author.Tests.{eqb-true, eqb-false, ne-eqb, not-true, eq-eqb}
+use Rattle.model.specs.Lists.{all, any, allTails, those}
 use Rattle.model.specs.Geometry.{enterPage}
-use Rattle.model.specs.Zones.{Entry, onPages, hasId}
+use Rattle.model.specs.Zones.{Entry, onPages, hasId, active}
 use Rattle.model.specs.Recovery.{ofId, enter}
 use Rattle.model.specs.Frame.{noPlace, placeOk, alone, placesOk}
 use Rattle.model.specs.Transactions.{heldPage, begun, written, entered}
 use Rattle.model.specs.declared.Geometry.{Geometry}
 use Rattle.model.specs.declared.Place.{Place}
-use Rattle.arrays.specs.Tests.{Is, eqb-cases, and-left, and-right, or-cases, all-at}
+use Rattle.arrays.specs.Tests.{Is, eqb-cases, and-left, and-right, or-cases, all-at, or-left, or-right}
 use Rattle.scanlog.specs.Log.{NoMark, ofId-same, enter-append}
 use Rattle.scanlog.specs.Good.{dataEntry}
 use Rattle.scanlog.specs.Logged.{off-none}
@@ -192,3 +192,16 @@ places-apart g (p ∷ ps) h (suc i) zero l k n z =
     λ q. later-apart p ps (and-right (placeOk g p) (alone p ps) (and-left (placeOk g p && alone p ps) _ h)) i (omega arith) (λ w. z (sym q ∙ w)) (sym q)
 places-apart g (p ∷ ps) h (suc i) (suc j) l k n z =
     places-apart g ps (and-right (placeOk g p && alone p ps) _ h) i j (omega arith) (omega arith) (λ q. n (ap suc q)) z
+
+-- ---- a place that is not free is active
+any-at : {A : Type 0} (f : A → Bool) (l : List A) (i : ℕ) (d : A) → i < length l → f (getD l i d) ≡ true → any f l ≡ true
+unfolding any
+any-at f [] i d h e = absurd (omega arith)
+any-at f (x ∷ l) zero d h e = or-left (f x) (any f l) e
+any-at f (x ∷ l) (suc i) d h e = or-right (f x) (any f l) (any-at f l i d (omega arith) e)
+
+pub place-active : (ps : List Place) (i : ℕ) → i < length ps → getD ps i noPlace .id ≢ 0 → active (getD ps i noPlace .id) ps ≡ true
+unfolding active
+place-active ps i l n =
+    let id = getD ps i noPlace .id in
+    rw (ne-eqb id 0 n, any-at (hasId id) ps i noPlace l (eq-eqb id id refl))

@@ -121,6 +121,7 @@ module _ (w : World) (b : Book) (h : Live w b) (clean : 0 < cleanPages w) (d : L
     wide = e;
     contents = c;
     last = v;
+    numbered = h .sound .numbered;
   }
 
   -- the contents as they were, on the array after it
@@ -146,4 +147,5 @@ module _ (w : World) (b : Book) (h : Live w b) (clean : 0 < cleanPages w) (d : L
         wide = h .sound .wide;
         contents = contents-keep xs ys (w .map) (b .pages) (λ j n o y. cut-keeps lets j y) (h .sound .contents);
         last = h .sound .last;
+        numbered = h .sound .numbered;
       }

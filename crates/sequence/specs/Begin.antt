@@ -55,7 +55,6 @@ live-place w b b′ i p h idle e good opens changing = record {
       (record { geometry = refl; checkpoint = refl; front = refl; first = refl }) (λ k l. refl);
   grown = h .grown;
   tidy = h .tidy;
-  number = h .number;
   hold = h .hold;
   places = good;
   opens = opens;

@@ -253,7 +253,6 @@ module _ (w : World) (b : Book) (h : Live w b) (id i : ℕ) (idle : isIdle (w .s
         (record { geometry = refl; checkpoint = refl; front = refl; first = refl }) (append-front w b h clean markData markSpare mark-long mark-small mark-fits);
     grown = h .grown;
     tidy = append-tidy w b h clean markData markSpare mark-long mark-small mark-fits;
-    number = h .number;
     hold = h .hold;
     places = places-set g ps i freePlace (h .places) (free-ok g) (λ z. absurd (z refl));
     opens = rw (append-scan w b h clean markData markSpare mark-long mark-small mark-fits)

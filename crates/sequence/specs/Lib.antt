@@ -14,3 +14,5 @@ pub mod Abort
 pub mod Hold
 pub mod Write
 pub mod Commit
+pub mod Spared
+pub mod Checkpointing

@@ -60,7 +60,6 @@ pub record Live (w : World) (b : Book) : Type 0 where
   pub kept : Kept w saved
   pub grown : Grown (saved .zones) (w .state .zones)
   pub tidy : Tidy (w .state .geometry) (w .array) (w .state .zones)
-  pub number : w .state .checkpoint ≤ 4294967294
   pub hold : length (w .hold) ≡ 4096
   pub places : PlacesGood (w .state .geometry) (w .state .places)
   pub opens : Opens (w .state .places) (scanned w)
@@ -131,16 +130,15 @@ plain-ok g z f h =
     let e : length (freeOf z) ≡ z .nf = length-take-le (z .nf) (z .free) (f .free) in
     zonesOf-ok (availableOf z) (unavailableOf z) (freeOf z) (z .pointer) g ∙ rw (a, u, e) h
 
-pub sound-live : (g : Geometry) (xs : List ℕ) (c : Saved) (map : List ℕ) (version : ℕ) (b : Book) (hold : List ℕ) → c .number ≤ 4294967294
+pub sound-live : (g : Geometry) (xs : List ℕ) (c : Saved) (map : List ℕ) (version : ℕ) (b : Book) (hold : List ℕ)
     → (h : Sound g xs c map version (b .pages)) → length hold ≡ 4096 → Live (handed xs map hold (recovered g xs c map version (b .pages) h)) (closedBook b)
 unfolding stateOf isOpen
-sound-live g xs c map version b hold n h e = record {
+sound-live g xs c map version b hold h e = record {
   saved = c;
   sound = subst (λ (v : ℕ). Sound g xs c map v (b .pages)) (sym (h .logged .last)) h;
   kept = subst (λ (s : State). Kept (handed xs map hold s) c) (front-state g xs c (h .front)) (recovered-kept g xs map hold c (h .front));
   grown = grown-plain (c .zones);
   tidy = grown-tidy (plain (c .zones)) (c .zones) (plain-grown (c .zones)) g xs (plain-ok g (c .zones) (h .front .fits) (h .sane .zones)) (h .tidy);
-  number = n;
   hold = e;
   places = places-free g;
   opens = λ i l z. absurd (z (free-at 8 i));

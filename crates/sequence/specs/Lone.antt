@@ -131,7 +131,6 @@ lone-live w b lpn d h small v =
           (record { geometry = refl; checkpoint = refl; front = refl; first = refl }) (append-front w b h clean d s (v .long) small fit);
       grown = h .grown;
       tidy = append-tidy w b h clean d s (v .long) small fit;
-      number = h .number;
       hold = h .hold;
       places = h .places;
       opens = rw (append-scan w b h clean d s (v .long) small fit) (lone-opens w b h clean lpn d (v .long) small (v .low) (v .more));

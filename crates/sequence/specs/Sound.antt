@@ -46,6 +46,14 @@ pub record Sound (g : Geometry) (xs : List ℕ) (c : Saved) (map : List ℕ) (ve
   pub wide : length map ≡ g .logical
   pub contents : Contents xs map ps
   pub last : version ≤ 4294967294
+  pub numbered : c .number ≤ 4294967294
+
+-- an array that is sound for these pages of the book
+pub record Stored (g : Geometry) (xs : List ℕ) (ps : List Content) : Type 0 where
+  pub saved : Saved
+  pub map : List ℕ
+  pub version : ℕ
+  pub sound : Sound g xs saved map version ps
 
 -- ---- a recovery of it
 -- what a recover is handed

@@ -258,7 +258,6 @@ module _ (w : World) (b : Book) (h : Live w b) (id lpn : ℕ) (d : List ℕ) (id
           (record { geometry = refl; checkpoint = refl; front = refl; first = refl }) front;
       grown = h .grown;
       tidy = tidy;
-      number = h .number;
       hold = hold-long (w .hold) i d (h .hold) low8 long;
       places = places-set g ps i q (h .places) (in-place g q (written-in g p k lpn room named (own .lpns) (own .ppns) low page (place-in g p (h .places .ok i (f .low)))))
           (λ z j l n. rw q-id (found-apart w b id i h f j l n));
