@@ -209,8 +209,12 @@ module _ (w : World) (b : Book) (h : Live w b) where
   cut-stored l (maps q i a r m) lets (inr f) = as-before l (maps q i a r m) lets f
   cut-stored l (zones q a r) lets (inr f) =
       let s = zones q a r in
-      record { saved = saving w (w .state .front * g .pages + q); map = w .map; version = w .state .version;
-        sound = next-sound (zs l s lets) (cut-data l s lets) (cut-long l s lets) (cut-bytes l s lets) (cut-leans l s lets) (w .state .front * g .pages + q) (a .number) f }
+      record {
+        saved = saving w (w .state .front * g .pages + q);
+        map = w .map;
+        version = w .state .version;
+        sound = next-sound (zs l s lets) (cut-data l s lets) (cut-long l s lets) (cut-bytes l s lets) (cut-leans l s lets) (w .state .front * g .pages + q) (a .number) f;
+      }
 
   pub checkpoint-cuts : (lets : List ℕ) → Stored g (cutArray checkpoint w lets) (b .pages)
   unfolding cutArray plan

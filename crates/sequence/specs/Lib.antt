@@ -16,3 +16,4 @@ pub mod Write
 pub mod Commit
 pub mod Spared
 pub mod Checkpointing
+pub mod Reclaiming

@@ -141,7 +141,7 @@ module _ (g : Geometry) (xs ys : List ℕ) (z : Zones) (map : List ℕ) (s : Spa
   unfolding scanOf ofId
   spared-page p o j l =
       let k : Entries (Kept xs ys) (scanIn xs (g .pages) (unavailableOf z ++ availableOf z))
-          = scan-kept xs ys (g .pages) (unavailableOf z ++ availableOf z) (each-append (λ (c : ℕ). SamePages xs ys (c * g .pages) (g .pages)) (unavailableOf z) (availableOf z) (s .unavailable) (s .available)) in
+      = scan-kept xs ys (g .pages) (unavailableOf z ++ availableOf z) (each-append (λ (c : ℕ). SamePages xs ys (c * g .pages) (g .pages)) (unavailableOf z) (availableOf z) (s .unavailable) (s .available)) in
       laid-entry (Kept xs ys) (p .id) (p .lpns) (p .ppns) (p .count - 1) (subst (Entries (Kept xs ys)) o (entries-those (Kept xs ys) (λ (e : Entry). eqb (e .id) (p .id)) _ k)) j (omega arith)
 
   spared-writes : (hold : List ℕ) (i : ℕ) (p : Place) (ws : List Write) → Open p (scanOf xs (g .pages) z) → Writes xs map hold i p ws → Writes ys map hold i p ws
@@ -192,11 +192,11 @@ spared-sound g xs ys z map s c version ps grown e y l f h =
 -- ---- a front block changes
 pub front-spares : (g : Geometry) (xs ys : List ℕ) (z : Zones) (map : List ℕ) → zonesOk g z ≡ true → MapGood g map → SameData xs ys (g .pages) → Spared g xs ys z map
 front-spares g xs ys z map ok good same = record {
-    available = is-each _ (availableOf z) (λ c k. block c (listed-block g z ok c (omega arith)));
-    unavailable = is-each _ (unavailableOf z) (λ c k. block c (listed-block g z ok c (omega arith)));
-    free = is-each _ (freeOf z) (λ c k. block c (listed-block g z ok c (omega arith)));
-    mapped = λ k n o. same k (page-least g k (good k n o .page));
-  }
+  available = is-each _ (availableOf z) (λ c k. block c (listed-block g z ok c (omega arith)));
+  unavailable = is-each _ (unavailableOf z) (λ c k. block c (listed-block g z ok c (omega arith)));
+  free = is-each _ (freeOf z) (λ c k. block c (listed-block g z ok c (omega arith)));
+  mapped = λ k n o. same k (page-least g k (good k n o .page));
+}
   where
     block : (c : ℕ) → dataBlock g c ≡ true → SamePages xs ys (c * g .pages) (g .pages)
     block c d i l =
