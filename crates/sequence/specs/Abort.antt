@@ -82,7 +82,7 @@ pub record Aborts (w : World) (id : ℕ) (p : Plan) : Type 0 where
   pub begun : leb 8 (placeOf (w .state .places) id) ≡ false
   pub is : p ≡ forgetPlan (placeOf (w .state .places) id) w
 
-abort-view : (id : ℕ) (w : World) → View w (Aborts w id) (planAbort id w)
+pub abort-view : (id : ℕ) (w : World) → View w (Aborts w id) (planAbort id w)
 unfolding planAbort refused
 abort-view id w =
     view-gate w (Aborts w id) false _ (λ f i.

@@ -69,7 +69,7 @@ pub record Begins (w : World) (id : ℕ) (p : Plan) : Type 0 where
   pub room : leb 8 (find (hasId 0) (w .state .places)) ≡ false
   pub is : p ≡ record { answer = 0; op = none; map = w .map; hold = w .hold; state = withPlace (w .state) (find (hasId 0) (w .state .places)) (begun id) }
 
-begin-view : (id : ℕ) (w : World) → View w (Begins w id) (planBegin id w)
+pub begin-view : (id : ℕ) (w : World) → View w (Begins w id) (planBegin id w)
 unfolding planBegin refused
 begin-view id w =
     view-gate w (Begins w id) false _ (λ f i.

@@ -17,3 +17,4 @@ pub mod Commit
 pub mod Spared
 pub mod Checkpointing
 pub mod Reclaiming
+pub mod Cuts
