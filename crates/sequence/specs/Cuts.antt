@@ -131,8 +131,12 @@ commit-cuts w b id lets h = go (planCommit id w) refl (commit-view id w)
         cut-program (commit id) w b _ lets p (nextPage w) (pageBytes (markData w b h id i idle f many more short) s) (h .sound .bytes) e (unfold markPlan dataBytes in refl) (unfold markPlan withPlace withVersion in refl)
         (append-ok w b h (mark.clean w b h id i idle f many more short) (markData w b h id i idle f many more short) s (mark-long w b h id i idle f many more short) (mark-small w b h id i idle f many more short) (mark-fits w b h id i idle f many more short))
         (mark-live w b h id i idle f many more short) (unfold entering in refl)
-        (λ t. record { saved = h .saved; map = w .map; version = w .state .version;
-          sound = cut-sound w b h (mark.clean w b h id i idle f many more short) (markData w b h id i idle f many more short) s (mark-long w b h id i idle f many more short) (mark-small w b h id i idle f many more short) (mark-fits w b h id i idle f many more short) lets t })
+        (λ t. record {
+          saved = h .saved;
+          map = w .map;
+          version = w .state .version;
+          sound = cut-sound w b h (mark.clean w b h id i idle f many more short) (markData w b h id i idle f many more short) s (mark-long w b h id i idle f many more short) (mark-small w b h id i idle f many more short) (mark-fits w b h id i idle f many more short) lets t;
+        })
 
     go : (p : Plan) → planCommit id w ≡ p → View w (Commits w id) p → CutKeeps (commit id) w b lets
     go p e (no n r) = cut-refused (commit id) w b lets h n e

@@ -18,3 +18,6 @@ pub mod Spared
 pub mod Checkpointing
 pub mod Reclaiming
 pub mod Cuts
+pub mod Start
+pub mod SameShape
+pub mod Theorem

@@ -103,13 +103,26 @@ free-at zero i = refl
 free-at (suc n) zero = refl
 free-at (suc n) (suc i) = free-at n i
 
-places-free : (g : Geometry) → PlacesGood g (replicate 8 freePlace)
+pub places-free : (g : Geometry) → PlacesGood g (replicate 8 freePlace)
 places-free g = record { ok = each 8; apart = λ i j l k n z. absurd (z (free-at 8 i)) }
   where
     each : (n i : ℕ) → i < length (replicate n freePlace) → placeOk g (getD (replicate n freePlace) i noPlace) ≡ true
     each zero i l = absurd (omega arith)
     each (suc n) zero l = free-ok g
     each (suc n) (suc i) l = each n i (omega arith)
+
+-- they are open nowhere, and no change of the book is
+pub free-opens : (es : List Entry) → Opens (replicate 8 freePlace) es
+free-opens es i l z = absurd (z (free-at 8 i))
+
+pub free-changing : (xs map hold : List ℕ) (b : Book) → b .changes ≡ [] → Changing xs map hold (replicate 8 freePlace) b
+unfolding isOpen any
+free-changing xs map hold b e = record {
+  eight = length-replicate {A = Place} 8 freePlace;
+  writes = λ i l z. absurd (z (free-at 8 i));
+  opened = λ i l z. absurd (z (free-at 8 i));
+  closed = λ id n k. rw e refl;
+}
 
 -- with its open changes closed
 abbrev pub closedBook : Book → Book
@@ -132,7 +145,7 @@ plain-ok g z f h =
 
 pub sound-live : (g : Geometry) (xs : List ℕ) (c : Saved) (map : List ℕ) (version : ℕ) (b : Book) (hold : List ℕ)
     → (h : Sound g xs c map version (b .pages)) → length hold ≡ 4096 → Live (handed xs map hold (recovered g xs c map version (b .pages) h)) (closedBook b)
-unfolding stateOf isOpen
+unfolding stateOf
 sound-live g xs c map version b hold h e = record {
   saved = c;
   sound = subst (λ (v : ℕ). Sound g xs c map v (b .pages)) (sym (h .logged .last)) h;
@@ -141,11 +154,6 @@ sound-live g xs c map version b hold h e = record {
   tidy = grown-tidy (plain (c .zones)) (c .zones) (plain-grown (c .zones)) g xs (plain-ok g (c .zones) (h .front .fits) (h .sane .zones)) (h .tidy);
   hold = e;
   places = places-free g;
-  opens = λ i l z. absurd (z (free-at 8 i));
-  changing = record {
-    eight = length-replicate {A = Place} 8 freePlace;
-    writes = λ i l z. absurd (z (free-at 8 i));
-    opened = λ i l z. absurd (z (free-at 8 i));
-    closed = λ id n k. unfold any in refl;
-  };
+  opens = free-opens _;
+  changing = free-changing xs map hold (closedBook b) refl;
 }

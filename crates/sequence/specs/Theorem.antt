@@ -1,0 +1,211 @@
+-- Demand 3: one invariant for a phase with the book, one lemma for each step, and the theorem.
+use mathlib.Core.Path.{_≡_, refl, sym, ap, _∙_, subst}
+use mathlib.Core.Logic.{_⊎_, inl, inr, _≢_}
+use mathlib.Core.Bool.{Bool, true, false, not, cond, _&&_}
+use Prim.Native.Nat.{ℕ, _+_, _*_, _≤_, _<_}
+use native.Mathlib.Omega.{arith}
+use mathlib.Core.List.{List, [], _∷_}
+use lib.ListN.{length, getD}
+use lib.Dec.{eqb}
+use Rattle.model.specs.Answers.{refused}
+use Rattle.model.specs.World.{World, Plan, refuse, none}
+use Rattle.model.specs.Frame.{lentOk}
+use Rattle.model.specs.Recover.{planRecover, recoverFrom, recoverPlan, entriesAt, zonesAt, scannedAt}
+use Rattle.model.specs.Transactions.{planBegin, planWrite, planLone, planCommit, planAbort}
+use Rattle.model.specs.Strides.{planCheckpoint, planReclaim}
+use Rattle.model.specs.Checkpoint.{Found, nothing, at, newest, loadOk}
+use Rattle.model.specs.Recovery.{pagesGood}
+use Rattle.model.specs.Geometry.{mapPages}
+use Rattle.model.specs.Commands.{Call, format, recover, begin, write, lone, commit, abort, read, checkpoint, reclaim, plan, carried, exec, Outcome}
+use Rattle.model.specs.Book.{Book, Content, never, Event, called, cutIn, cutBetween, blank, tell, story, entering, changing, pageOf}
+use Rattle.model.specs.Sequence.{fits, Phase, live, dark, arrayOf, Allowed, isRecovery, cutEvent, cutArray, Step, call, cut, between, back, failed, lost, again, Run, stop, next, Formatted}
+use Rattle.model.specs.Demand3.{ReadsAs, Reads, Recovers, LiveReads, Kept, Demand3, FormatReads}
+use Rattle.model.specs.declared.Geometry.{Geometry}
+use Rattle.model.specs.declared.State.{State}
+use Rattle.arrays.specs.Tests.{clash, decide}
+use Rattle.arrays.specs.Ranges.{InLengths}
+use Rattle.model.specs.Zones.{Entry}
+use Rattle.front.specs.Base.{lent-lengths}
+use Rattle.front.specs.Written.{Saved}
+use Rattle.front.specs.Recovered.{stateOf}
+use Rattle.front.specs.FormatReads.{format-reads}
+use Rattle.sequence.specs.Refused.{refused-same, read-same, keeps-plan}
+use Rattle.sequence.specs.Sound.{Sound, Stored, handed, recovered, sound-recovers}
+use Rattle.sequence.specs.Live.{Live, live-reads, closedBook, sound-live}
+use Rattle.sequence.specs.View.{Keeps, told-refused, refused-live}
+use Rattle.sequence.specs.SameShape.{SameShape, same-begin, same-write, same-lone, same-commit, same-abort, same-checkpoint, same-reclaim}
+use Rattle.sequence.specs.Begin.{begin-keeps}
+use Rattle.sequence.specs.Abort.{abort-keeps}
+use Rattle.sequence.specs.Lone.{lone-keeps}
+use Rattle.sequence.specs.Write.{write-keeps}
+use Rattle.sequence.specs.Commit.{commit-keeps}
+use Rattle.sequence.specs.Checkpointing.{checkpoint-live}
+use Rattle.sequence.specs.Reclaiming.{reclaim-keeps}
+use Rattle.sequence.specs.Cuts.{CutKeeps, live-stored, cut-none, cut-refused, begin-cuts, abort-cuts, lone-cuts, commit-cuts, write-cuts, checkpoint-cuts-kept, reclaim-cuts, read-cuts}
+use Rattle.sequence.specs.Start.{formatted-live, format-zones-ok}
+
+-- ---- the invariant
+-- a world of geometry g is live
+pub record LiveAt (g : Geometry) (w : World) (b : Book) : Type 0 where
+  pub shape : w .state .geometry ≡ g
+  pub world : Live w b
+
+abbrev pub Holds : Geometry → Book → Phase → Type 0
+Holds g b (live w) = LiveAt g w b
+Holds g b (dark xs) = Stored g xs (b .pages)
+
+-- ---- a recovery of a sound array
+-- the state that it makes has the geometry
+state-shape : (g : Geometry) (es : List Entry) (c : Saved) → stateOf g es c .geometry ≡ g
+unfolding stateOf
+state-shape g es c = refl
+
+module _ (g : Geometry) (xs : List ℕ) (b : Book) (s : Stored g xs (b .pages)) (map hold : List ℕ) (t : State) (wide : length map ≡ g .logical) (long : length hold ≡ 4096) where
+  -- the world that it leads to
+  abbrev found : World
+  found = handed xs (s .map) hold (recovered g xs (s .saved) (s .map) (s .version) (b .pages) (s .sound))
+
+  recovers : exec (recover g) (handed xs map hold t) ≡ record { answer = 0; world = found }
+  recovers = sound-recovers g xs (s .saved) (s .map) (s .version) (b .pages) (s .sound) map hold t wide long
+
+  again-same : exec (recover g) found ≡ record { answer = 0; world = found }
+  again-same = sound-recovers g xs (s .saved) (s .map) (s .version) (b .pages) (s .sound) (s .map) hold _ (s .sound .wide) long
+
+  found-live : Live found (closedBook b)
+  found-live = sound-live g xs (s .saved) (s .map) (s .version) b hold (s .sound) long
+
+  found-shape : found .state .geometry ≡ g
+  found-shape = state-shape g _ (s .saved)
+
+  pub recovered-live : LiveAt g (exec (recover g) (handed xs map hold t) .world) (closedBook b)
+  recovered-live = rw recovers (record { shape = found-shape; world = found-live })
+
+  pub recovered-right : Recovers g b (handed xs map hold t)
+  recovered-right = record {
+    succeeds = ap (λ (o : Outcome). o .answer) recovers;
+    reads = rw recovers (λ lpn l. live-reads found (closedBook b) found-live lpn (rw found-shape l));
+    again = rw recovers again-same;
+  }
+
+-- a recover that is done was handed buffers of the right lengths
+recover-lent : (g : Geometry) (w : World) → exec (recover g) w .answer ≡ 0 → lentOk g w ≡ true
+unfolding exec plan carried planRecover
+recover-lent g w e = go (lentOk g w) e
+  where
+    go : (t : Bool) → cond t (recoverFrom g w (newest (w .array) (mapPages g) (g .pages))) (refuse w 1) .answer ≡ 0 → t ≡ true
+    go true e = refl
+    go false e = absurd (omega (arith, e))
+
+-- the book after it
+recover-told : (g : Geometry) (b : Book) (n : ℕ) → n ≡ 0 → tell b (called (recover g) n) ≡ closedBook b
+unfolding tell entering changing
+recover-told g b n e = rw e refl
+
+-- ---- a call on a live world
+-- the geometry after it
+shape-after : (c : Call) (w : World) (g : Geometry) (p : Plan) → plan c w ≡ p → SameShape w p → w .state .geometry ≡ g → exec c w .world .state .geometry ≡ g
+unfolding exec carried
+shape-after c w g p e s h = rw e (s .same ∙ h)
+
+-- a recover without a cut
+live-recover : (g : Geometry) (w : World) (b : Book) → LiveAt g w b → LiveAt g (exec (recover g) w .world) (tell b (called (recover g) (exec (recover g) w .answer)))
+live-recover g w b h =
+    let s : Stored g (w .array) (b .pages) = rw (h .shape) at (live-stored w b (h .world)) in
+    let wide : length (w .map) ≡ g .logical = rw (h .shape) at (h .world .sound .wide) in
+    let r = recovered-live g (w .array) b s (w .map) (w .hold) (w .state) wide (h .world .hold) in
+    let e = recovered-right g (w .array) b s (w .map) (w .hold) (w .state) wide (h .world .hold) .succeeds in
+    rw (recover-told g b (exec (recover g) w .answer) e) r
+
+-- a read changes neither the world nor the book
+read-live : (w : World) (b : Book) (lpn n : ℕ) → Live w b → Live w (tell b (called (read lpn) n))
+unfolding tell entering changing
+read-live w b lpn n h = go (eqb n 0)
+  where
+    go : (t : Bool) → Live w (cond t (record { pages = b .pages; changes = b .changes }) b)
+    go true = h
+    go false = h
+
+kept-call : (g : Geometry) (c : Call) (w : World) (b : Book) → fits c ≡ true → Allowed g c w → LiveAt g w b → LiveAt g (exec c w .world) (tell b (called c (exec c w .answer)))
+kept-call g (format k) w b f a h = record { shape = rw (refused-same w (format k) (unfold exec carried in a)) (h .shape); world = refused-live w b (format k) (unfold exec carried in a) (h .world) }
+kept-call g (recover k) w b f a h = rw a (live-recover g w b h)
+kept-call g (begin id) w b f a h = record { shape = shape-after (begin id) w g (planBegin id w) (unfold plan in refl) (same-begin w id) (h .shape); world = begin-keeps w b id (h .world) f }
+kept-call g (write id lpn d) w b f a h = record { shape = shape-after (write id lpn d) w g (planWrite id lpn d w) (unfold plan in refl) (same-write w id lpn d) (h .shape); world = write-keeps w b id lpn d (h .world) f }
+kept-call g (lone lpn d) w b f a h = record { shape = shape-after (lone lpn d) w g (planLone lpn d w) (unfold plan in refl) (same-lone w lpn d) (h .shape); world = lone-keeps w b lpn d (h .world) f }
+kept-call g (commit id) w b f a h = record { shape = shape-after (commit id) w g (planCommit id w) (unfold plan in refl) (same-commit w id) (h .shape); world = commit-keeps w b id (h .world) }
+kept-call g (abort id) w b f a h = record { shape = shape-after (abort id) w g (planAbort id w) (unfold plan in refl) (same-abort w id) (h .shape); world = abort-keeps w b id (h .world) }
+kept-call g (read lpn) w b f a h = rw (read-same lpn w) (record { shape = h .shape; world = read-live w b lpn (exec (read lpn) w .answer) (h .world) })
+kept-call g checkpoint w b f a h = record { shape = shape-after checkpoint w g (planCheckpoint w) (unfold plan in refl) (same-checkpoint w) (h .shape); world = checkpoint-live w b (h .world) }
+kept-call g reclaim w b f a h = record { shape = shape-after reclaim w g (planReclaim w) (unfold plan in refl) (same-reclaim w) (h .shape); world = reclaim-keeps w b (h .world) }
+
+-- recover does nothing to the array
+from-none : (g : Geometry) (w : World) (f : Found) → recoverFrom g w f .op ≡ none
+unfolding recoverFrom recoverPlan
+from-none g w nothing = refl
+from-none g w (at k) = go (not (loadOk g (entriesAt g (w .array) k) (zonesAt g (w .array) k))) (not (pagesGood (g .logical) (scannedAt g (w .array) k)))
+  where
+    go : (s t : Bool) → cond s (refuse w 3) (cond t (refuse w 4) (recoverPlan g k w)) .op ≡ none
+    go true t = refl
+    go false true = refl
+    go false false = refl
+
+recover-none : (g : Geometry) (w : World) → plan (recover g) w .op ≡ none
+unfolding plan planRecover
+recover-none g w = go (lentOk g w) (newest (w .array) (mapPages g) (g .pages))
+  where
+    go : (t : Bool) (f : Found) → cond t (recoverFrom g w f) (refuse w 1) .op ≡ none
+    go true f = from-none g w f
+    go false f = refl
+
+-- ---- a cut in a call
+kept-cut : (g : Geometry) (c : Call) (w : World) (b : Book) (lets : List ℕ) → fits c ≡ true → Allowed g c w → LiveAt g w b → CutKeeps c w b lets
+kept-cut g (format k) w b lets f a h = cut-refused (format k) w b lets (h .world) _ (keeps-plan w (format k) .same a)
+kept-cut g (recover k) w b lets f a h = cut-none (recover k) w b lets (h .world) (recover-none k w)
+kept-cut g (begin id) w b lets f a h = begin-cuts w b id lets (h .world)
+kept-cut g (write id lpn d) w b lets f a h = write-cuts w b id lpn d lets (h .world) f
+kept-cut g (lone lpn d) w b lets f a h = lone-cuts w b lpn d lets (h .world) f
+kept-cut g (commit id) w b lets f a h = commit-cuts w b id lets (h .world)
+kept-cut g (abort id) w b lets f a h = abort-cuts w b id lets (h .world)
+kept-cut g (read lpn) w b lets f a h = read-cuts w b lpn lets (h .world)
+kept-cut g checkpoint w b lets f a h = checkpoint-cuts-kept w b lets (h .world)
+kept-cut g reclaim w b lets f a h = reclaim-cuts w b lets (h .world)
+
+-- ---- one step
+pub step-holds : (g : Geometry) (b : Book) (p : Phase) (e : Event) (q : Phase) → Step g p e q → Holds g b p → Holds g (tell b e) q
+step-holds g b p e q (call c w f a) h = kept-call g c w b f a h
+step-holds g b p e q (cut c w lets f a) h = subst (λ (k : Geometry). Stored k (cutArray c w lets) (tell b (cutEvent c w lets) .pages)) (h .shape) (kept-cut g c w b lets f a h)
+step-holds g b p e q (between w) h = unfold tell in subst (λ (k : Geometry). Stored k (w .array) (b .pages)) (h .shape) (live-stored w b (h .world))
+step-holds g b p e q (back w r) h =
+    let l = lent-lengths g w (recover-lent g w r) in
+    rw (recover-told g b 0 refl) (recovered-live g (w .array) b h (w .map) (w .hold) (w .state) (l .map) (l .hold))
+step-holds g b p e q (failed c w i f a r) h = rw (told-refused b c (exec c w .answer) r) h
+step-holds g b p e q (lost c w i f a) h = unfold tell in h
+step-holds g b p e q (again xs) h = unfold tell in h
+
+-- ---- a run
+pub run-holds : (g : Geometry) (b : Book) (p : Phase) (es : List Event) (q : Phase) → Run g p es q → Holds g b p → Holds g (story b es) q
+unfolding story
+run-holds g b p es q (stop p′) h = h
+run-holds g b p es q (next {q = r} {e = e} {es = fs} s t) h = run-holds g (tell b e) r fs q t (step-holds g b p e r s h)
+
+-- what the invariant gives
+holds-stored : (g : Geometry) (b : Book) (p : Phase) → Holds g b p → Stored g (arrayOf p) (b .pages)
+holds-stored g b (live w) h = rw (h .shape) at (live-stored w b (h .world))
+holds-stored g b (dark xs) h = h
+
+holds-reads : (g : Geometry) (b : Book) (p : Phase) → Holds g b p → LiveReads g b p
+holds-reads g b (live w) h = λ lpn l. live-reads w b (h .world) lpn (rw (h .shape) l)
+holds-reads g b (dark xs) h = tt
+
+-- ---- the theorem
+pub demand3 : Demand3
+demand3 g w es p f r =
+    let s = formatted-live g w f in
+    let h = run-holds g (blank g) (live w) es p r (record { shape = s .0; world = s .1 }) in
+    record {
+      recovers = λ map hold t wide long. recovered-right g (arrayOf p) (story (blank g) es) (holds-stored g (story (blank g) es) p h) map hold t wide long;
+      reads = holds-reads g (story (blank g) es) p h;
+    }
+
+-- between two strides of the format every page is never written
+pub formatReads : FormatReads
+formatReads = format-reads format-zones-ok
