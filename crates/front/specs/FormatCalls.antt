@@ -22,7 +22,7 @@ use Rattle.model.specs.Commands.{format, plan, carried, exec}
 use Rattle.model.specs.Sequence.{Formatting, first, more, Formatted, finished}
 use Rattle.model.specs.declared.Geometry.{Geometry}
 use Rattle.model.specs.declared.State.{State}
-use Rattle.model.specs.declared.Work.the-variants.{Format}
+use Rattle.model.specs.declared.Work.the-variants.{Idle, Format}
 use Rattle.arrays.specs.Tests.{and-left, and-both, or-left, or-right}
 use Rattle.arrays.specs.Ranges.{InGeometry, in-lengths, geometry-same}
 use Rattle.front.specs.Base.{lent-geometry, lent-lengths}
@@ -217,3 +217,51 @@ format-goes-on g w k f =
       where
         under : formatWorkOk g w (stateUnder g k .work) ≡ true
         under = unfold formatWorkOk withWork freshState in or-right (not (sameGeometry g (w .state .geometry))) _ (formats-stride g w k f)
+
+-- ---- a format of idle buffers in range comes to its end
+module _ (g : Geometry) (ok : InGeometry g → zonesOk g (formatZones g) ≡ true) where
+  -- a call on a world with k strides done
+  one-stride : (w : World) (k : ℕ) → lentOk g w ≡ true → planFormat g w ≡ formatStride g k w → k ≤ g .blocks + mapPages g → Laid g (w .array) k
+      → ((exec (format g) w .answer ≡ 255) × Formats g (exec (format g) w .world) (k + 1)) ⊎ ((exec (format g) w .answer ≡ 0) × Starts g (exec (format g) w .world))
+  unfolding exec plan
+  one-stride w k l e m f = go (stride-leaves g w l ok k (formatStride g k w) (format-stride g k w m) f)
+    where
+      go : ((formatStride g k w .answer ≡ 255) × Formats g (carried (formatStride g k w) w .world) (k + 1)) ⊎ ((formatStride g k w .answer ≡ 0) × Starts g (carried (formatStride g k w) w .world))
+          → ((carried (planFormat g w) w .answer ≡ 255) × Formats g (carried (planFormat g w) w .world) (k + 1)) ⊎ ((carried (planFormat g w) w .answer ≡ 0) × Starts g (carried (planFormat g w) w .world))
+      go (inl h) = inl (unfold carried in rw e (h .0), rw e (h .1))
+      go (inr h) = inr (unfold carried in rw e (h .0), rw e (h .1))
+
+  -- n strides before the last
+  strides-left : (n k : ℕ) (w : World) → k + n ≡ g .blocks + mapPages g → Formatting g w → Formats g w k → (v : World) × Formatted g v
+  strides-left zero k w e f h = go (one-stride w k (h .lent) (format-goes-on g w k h) (h .most) (h .laid))
+    where
+      go : ((exec (format g) w .answer ≡ 255) × Formats g (exec (format g) w .world) (k + 1)) ⊎ ((exec (format g) w .answer ≡ 0) × Starts g (exec (format g) w .world)) → (v : World) × Formatted g v
+      go (inl r) = absurd (omega (arith, r .1 .most))
+      go (inr r) = (exec (format g) w .world, finished w f (r .0))
+  strides-left (suc n) k w e f h = go (one-stride w k (h .lent) (format-goes-on g w k h) (h .most) (h .laid)) (strides-left n (k + 1) (exec (format g) w .world) (omega arith))
+    where
+      go : ((exec (format g) w .answer ≡ 255) × Formats g (exec (format g) w .world) (k + 1)) ⊎ ((exec (format g) w .answer ≡ 0) × Starts g (exec (format g) w .world))
+          → (Formatting g (exec (format g) w .world) → Formats g (exec (format g) w .world) (k + 1) → (v : World) × Formatted g v) → (v : World) × Formatted g v
+      go (inl r) on = on (more w f (r .0)) (r .1)
+      go (inr r) on = (exec (format g) w .world, finished w f (r .0))
+
+  first-plan : (w : World) → lentOk g w ≡ true → w .state .work ≡ Idle → planFormat g w ≡ formatStride g 0 w
+  unfolding planFormat formatWorkOk stridesDone
+  first-plan w l i = rw (l, i)
+
+  first-more : (w : World) → 0 < g .blocks → formatStride g 0 w .answer ≡ 255
+  unfolding formatStride formatMore
+  first-more w l = rw (lt-ltb 0 (g .blocks) l)
+
+  pub format-finishes : (w : World) → lentOk g w ≡ true → w .state .work ≡ Idle → (v : World) × Formatted g v
+  format-finishes w l i = go (one-stride w 0 l (first-plan w l i) (omega arith) (laid-start g (lent-geometry g w l) (w .array) (lent-lengths g w l .array)))
+    where
+      none-done : stridesDone g (w .state) (w .state .work) ≡ 0
+      none-done = unfold stridesDone in rw i
+
+      answers : exec (format g) w .answer ≡ 255
+      answers = unfold exec plan carried in rw (first-plan w l i) (first-more w (omega (arith, lent-geometry g w l .blocks-least)))
+
+      go : ((exec (format g) w .answer ≡ 255) × Formats g (exec (format g) w .world) 1) ⊎ ((exec (format g) w .answer ≡ 0) × Starts g (exec (format g) w .world)) → (v : World) × Formatted g v
+      go (inl r) = strides-left (g .blocks + mapPages g - 1) 1 (exec (format g) w .world) (omega (arith, r .1 .most)) (first w none-done (r .0)) (r .1)
+      go (inr r) = absurd (omega (arith, r .0, answers))

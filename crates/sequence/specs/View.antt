@@ -42,6 +42,11 @@ module _ (w : World) (P : Plan → Type 0) where
   view-cond true p q u v = u refl
   view-cond false p q u v = v refl
 
+-- by what follows from it
+pub view-map : (w : World) (P Q : Plan → Type 0) (p : Plan) → ((q : Plan) → P q → Q q) → View w P p → View w Q p
+view-map w P Q p f (no n r) = no n r
+view-map w P Q p f (yes q x) = yes q (f q x)
+
 -- idle, where only that lets a command pass
 pub idle-only : (t : Bool) → (t || false) ≡ true → t ≡ true
 idle-only true h = refl
