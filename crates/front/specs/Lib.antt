@@ -11,14 +11,13 @@ pub mod Blocks
 pub mod Front
 pub mod Way
 pub mod Effect
-pub mod Away
+pub mod InFront
 pub mod Recovered
 pub mod Kept
 pub mod CheckpointStrides
 pub mod CheckpointFront
 pub mod Programs
-pub mod CheckpointCalls
-pub mod Again
+pub mod CheckpointOps
 pub mod FormatStrides
 pub mod FormatCalls
 pub mod FormatReads

@@ -1,11 +1,10 @@
 -- The newest checkpoint, and what is read of it, depends on the pages of the two front blocks only.
-use Prim.Native.Nat.{ℕ, zero, suc, _+_, _*_, _<_, _≤_}
+use Prim.Native.Nat.{ℕ, _*_, _<_}
 use native.Mathlib.Omega.{arith}
-use mathlib.Core.Path.{_≡_, refl, ap, sym}
+use mathlib.Core.Path.{_≡_, refl, sym}
 use mathlib.Core.List.{List}
-use Rattle.model.specs.Page.{spareOf, pageAt}
-use Rattle.model.specs.Checkpoint.{Found, nothing, at, numberAt, newest, loadMap}
-use Rattle.arrays.specs.Pages.{data-same}
+use Rattle.model.specs.Page.{pageAt}
+use Rattle.model.specs.Checkpoint.{Found, nothing, at, numberAt, newest}
 use Rattle.front.specs.Complete.{Complete, complete-same}
 use Rattle.front.specs.Newest.{Start, newest-is, newest-none, newest-found, newest-nothing}
 
@@ -39,14 +38,3 @@ newest-local xs ys m p e =
     newest-alike xs ys m p
     (λ i n t c. complete-same xs ys m i n (λ k a b. let u = t .front in e k (omega arith)) c)
     (λ i n t c. complete-same ys xs m i n (λ k a b. let u = t .front in sym (e k (omega arith))) c)
-
--- the map entries and the number
-pub load-same : (xs ys : List ℕ) (k n : ℕ) → ((i : ℕ) → k ≤ i → i < k + n → pageAt ys i ≡ pageAt xs i) → loadMap ys k n ≡ loadMap xs k n
-unfolding loadMap
-load-same xs ys k zero e = refl
-load-same xs ys k (suc n) e =
-    rw (data-same xs ys k k (e k (omega arith) (omega arith)), load-same xs ys (suc k) n (λ i a b. e i (omega arith) (omega arith)))
-
-pub number-same : (xs ys : List ℕ) (k : ℕ) → pageAt ys k ≡ pageAt xs k → numberAt ys k ≡ numberAt xs k
-unfolding numberAt
-number-same xs ys k e = ap (λ (q : List ℕ). spareOf q .ver) e

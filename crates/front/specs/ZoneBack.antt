@@ -41,15 +41,6 @@ module _ (a u f : List ℕ) (p : ℕ) where
   unfolding zonesOf
   back-free = take-pad 126 f
 
-  back-pointer : zonesOf a u f p .pointer ≡ p
-  unfolding zonesOf
-  back-pointer = refl
-
-  -- they have nothing but zeros behind
-  pub plain-of : plain (zonesOf a u f p) ≡ zonesOf a u f p
-  unfolding plain
-  plain-of = rw (back-available, back-unavailable, back-free) (ap (zonesOf a u f) back-pointer)
-
   pub fits-of : length a + length u + length f ≤ 504 → Fits (zonesOf a u f p)
   unfolding zonesOf padTo
   fits-of h =

@@ -18,7 +18,7 @@ use Rattle.arrays.specs.Pages.{BlockFits}
 use Rattle.arrays.specs.Ranges.{block-least, block-most}
 use Rattle.arrays.specs.Used.{used-erase}
 use Rattle.scanlog.specs.Sublist.{Sublist, sub-refl, sub-trans}
-use Rattle.scanlog.specs.Occ.{occ, occ-yes, occ-no, occ-append, occ-sub, Distinct, pigeon}
+use Rattle.scanlog.specs.Occ.{occ, occ-yes, occ-no, occ-append, Distinct, pigeon}
 use Rattle.scanlog.specs.Rising.{insert-occ, insert-rising, insert-sub}
 use Rattle.scanlog.specs.Shape.{shape, shape-ok, Unlisted, zonesOf-available, zonesOf-unavailable, zonesOf-free, zonesOf-ok}
 use Rattle.scanlog.specs.Order.{Order, each-sub, each-is, is-each}
@@ -134,7 +134,3 @@ module _ (z₀ z : Zones) (h : Grown z₀ z) where
     order = subst (Order xs (g .pages)) (sym (h .available)) (t .order);
     blank = each-sub (λ (c : ℕ). usedIn xs (g .pages) c ≡ 0) (h .free) (t .blank);
   }
-
-  -- a block in none of the live lists is in none of the checkpoint's
-  pub grown-unlisted : (b : ℕ) → Unlisted z b → Unlisted z₀ b
-  grown-unlisted b n = omega (arith, n, ap (occ b) (h .available), ap (occ b) (h .unavailable), occ-sub b (h .free))

@@ -3,21 +3,20 @@
 use mathlib.Core.Path.{_≡_, refl, sym, ap, _∙_}
 use mathlib.Core.Logic.{inl, inr, _≢_}
 use mathlib.Core.Bool.{Bool, true, false, not, _||_}
-use Prim.Native.Nat.{ℕ, _*_, _≤_, _<_}
+use Prim.Native.Nat.{ℕ, _*_, _<_}
 use native.Mathlib.Omega.{arith}
 use mathlib.Core.List.{List, [], _∷_, _++_}
 use lib.Dec.{eqb}
 use borrow.Author.Tests.{ne-eqb}
 use Rattle.model.specs.Lists.{any, keep, those}
-use Rattle.model.specs.Recovery.{ofId, top}
+use Rattle.model.specs.Recovery.{ofId}
 use Rattle.model.specs.Zones.{Entry, wholeFrom, usedIn, isFull, scanIn, onPages, active, wanted, staying, leaving, holdsWanted, judged}
 use Rattle.model.specs.declared.Place.{Place}
 use Rattle.arrays.specs.Tests.{clash, Is, eqb-cases, or-false-left, or-false-right}
 use Rattle.arrays.specs.Used.{used-in-le}
 use Rattle.arrays.specs.Scan.{Blank}
 use Rattle.scanlog.specs.Sublist.{Sublist, nil, skip, both, sub-refl, sub-nil, sub-append}
-use Rattle.scanlog.specs.Occ.{occ, occ-nil, occ-cons, occ-yes, occ-no}
-use Rattle.scanlog.specs.Log.{ofId-append, top-append}
+use Rattle.scanlog.specs.Log.{ofId-append}
 use Rattle.scanlog.specs.Order.{Order}
 
 pub scan-sub : (xs : List ℕ) (p : ℕ) {cs bs : List ℕ} → Sublist cs bs → Sublist (scanIn xs p cs) (scanIn xs p bs)
@@ -79,40 +78,3 @@ module _ (ps : List Place) (near : List Entry) (id : ℕ) (want : Wanted ps near
       go false e ih = ih ∙ sym (ofId-append id (wholeFrom xs (b * p) p) (scanIn xs p bs) ∙ rw (unwanted-none (wholeFrom xs (b * p) p) e))
 
 -- ---- what is not wanted may leave
--- these pages are of no active transaction, and of none with a page among those near
-abbrev pub Complete : List Place → List Entry → List Entry → Type 0
-Complete ps near [] = Unit {0}
-Complete ps near (e ∷ es) = (e .id ≢ 0 → (active (e .id) ps ≡ false) × (onPages (e .id) near ≡ false)) × Complete ps near es
-
-pub unwanted-complete : (ps : List Place) (near es : List Entry) → any (wanted ps near) es ≡ false → Complete ps near es
-unfolding any wanted
-unwanted-complete ps near [] h = tt
-unwanted-complete ps near (e ∷ es) h = (complete, unwanted-complete ps near es (or-false-right (wanted ps near e) (any (wanted ps near) es) h))
-  where
-    complete : e .id ≢ 0 → (active (e .id) ps ≡ false) × (onPages (e .id) near ≡ false)
-    complete n =
-        let k : (active (e .id) ps || onPages (e .id) near) ≡ false = rw (ne-eqb (e .id) 0 n) at (or-false-left (wanted ps near e) (any (wanted ps near) es) h) in
-        (or-false-left (active (e .id) ps) (onPages (e .id) near) k, or-false-right (active (e .id) ps) (onPages (e .id) near) k)
-
--- the pages of a scanned block have no version above the scan's
-pub block-top : (xs : List ℕ) (p : ℕ) (bs : List ℕ) (b : ℕ) → 0 < occ b bs → top (wholeFrom xs (b * p) p) ≤ top (scanIn xs p bs)
-unfolding scanIn
-block-top xs p [] b h = absurd (omega (arith, occ-nil b))
-block-top xs p (c ∷ bs) b h = go (eqb-cases b c) (block-top xs p bs b)
-  where
-    go : Is b c → (0 < occ b bs → top (wholeFrom xs (b * p) p) ≤ top (scanIn xs p bs)) → top (wholeFrom xs (b * p) p) ≤ top (wholeFrom xs (c * p) p ++ scanIn xs p bs)
-    go (inl q) ih = omega (arith, top-append (wholeFrom xs (c * p) p) (scanIn xs p bs), ap (λ (x : ℕ). top (wholeFrom xs (x * p) p)) (q .0))
-    go (inr q) ih = omega (arith, top-append (wholeFrom xs (c * p) p) (scanIn xs p bs), ih (omega (arith, occ-cons b c bs, occ-no b c (q .0))))
-
--- those that are judged and go
-pub judged-gone : (xs : List ℕ) (p : ℕ) (ps : List Place) (near : List Entry) (bs : List ℕ) (b : ℕ) → 0 < occ b bs → occ b (judged xs p ps near bs) ≡ 0 → holdsWanted xs p ps near b ≡ false
-unfolding judged those
-judged-gone xs p ps near [] b h k = absurd (omega (arith, occ-nil b))
-judged-gone xs p ps near (c ∷ bs) b h k = go (holdsWanted xs p ps near c) refl (eqb-cases b c) k (judged-gone xs p ps near bs b)
-  where
-    go : (t : Bool) → holdsWanted xs p ps near c ≡ t → Is b c → occ b (keep t (c ∷ []) ++ judged xs p ps near bs) ≡ 0
-        → (0 < occ b bs → occ b (judged xs p ps near bs) ≡ 0 → holdsWanted xs p ps near b ≡ false) → holdsWanted xs p ps near b ≡ false
-    go true e (inl q) k ih = absurd (omega (arith, occ-cons b c (judged xs p ps near bs), occ-yes b c (q .0)))
-    go true e (inr q) k ih = ih (omega (arith, occ-cons b c bs, occ-no b c (q .0))) (omega (arith, occ-cons b c (judged xs p ps near bs)))
-    go false e (inl q) k ih = rw (q .0) e
-    go false e (inr q) k ih = ih (omega (arith, occ-cons b c bs, occ-no b c (q .0))) k

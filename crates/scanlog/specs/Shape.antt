@@ -2,7 +2,7 @@
 use mathlib.Core.Path.{_≡_, refl}
 use mathlib.Core.Logic.{inl, inr}
 use mathlib.Core.Bool.{true, false, not, _&&_}
-use Prim.Native.Nat.{ℕ, zero, suc, _+_, _-_, _≤_, _<_}
+use Prim.Native.Nat.{ℕ, _+_, _-_, _≤_, _<_}
 use native.Mathlib.Omega.{arith}
 use mathlib.Core.List.{List, [], _∷_, _++_}
 use lib.ListN.{length, take, replicate}
@@ -14,15 +14,8 @@ use Rattle.model.specs.Geometry.{dataBlock}
 use Rattle.model.specs.Zones.{availableOf, unavailableOf, freeOf, zonesOf, newBlock, zoneListsOk, zonesOk, checkpointed}
 use Rattle.model.specs.declared.Geometry.{Geometry}
 use Rattle.model.specs.declared.Zones.{Zones}
-use Rattle.arrays.specs.Tests.{clash, Is, eqb-cases, and-left, and-right}
+use Rattle.arrays.specs.Tests.{Is, eqb-cases, and-left, and-right}
 use Rattle.scanlog.specs.Occ.{occ, occ-nil, occ-cons, occ-yes, occ-no, occ-append, Distinct, elem-occ, occ-elem}
-
--- a front block is none
-pub front-block : (g : Geometry) (f : ℕ) → f < 2 → dataBlock g f ≡ false
-unfolding dataBlock
-front-block g zero h = refl
-front-block g (suc zero) h = refl
-front-block g (suc (suc f)) h = absurd (omega arith)
 
 -- ---- a list of new blocks, by counting
 -- each is a data block, and stands once
@@ -145,13 +138,6 @@ module _ (g : Geometry) (z : Zones) (ok : zonesOk g z ≡ true) where
 -- a block that is in none of the lists: a front block, or a checkpointed one
 abbrev pub Unlisted : Zones → ℕ → Type 0
 Unlisted z b = occ b (availableOf z) + occ b (unavailableOf z) + occ b (freeOf z) ≡ 0
-
-pub front-unlisted : (g : Geometry) (z : Zones) → zonesOk g z ≡ true → (f : ℕ) → f < 2 → Unlisted z f
-front-unlisted g z ok f h = go (eqb-cases (occ f (availableOf z) + occ f (unavailableOf z) + occ f (freeOf z)) 0)
-  where
-    go : Is (occ f (availableOf z) + occ f (unavailableOf z) + occ f (freeOf z)) 0 → Unlisted z f
-    go (inl q) = q .0
-    go (inr q) = clash (listed-block g z ok f (omega (arith, q .0))) (front-block g f h)
 
 pub checkpointed-unlisted : (z : Zones) (b : ℕ) → checkpointed z b ≡ true → Unlisted z b
 unfolding checkpointed

@@ -17,7 +17,7 @@ use Rattle.model.specs.declared.Place.{Place}
 use Rattle.arrays.specs.Tests.{not-so}
 use Rattle.arrays.specs.Bytelist.{Bytes}
 use Rattle.arrays.specs.Pages.{Other, OtherBlock, SamePages, PageFits, BlockFits}
-use Rattle.arrays.specs.Ops.{program-other, cut-program-other, erase-others, cut-erase-others}
+use Rattle.arrays.specs.Ops.{program-other, cut-program-other, erase-others}
 use Rattle.arrays.specs.Ranges.{block-page-is, data-page-fits}
 use Rattle.arrays.specs.Whole.{whole-class}
 use Rattle.arrays.specs.Arrays.{ProgramOk, cut-torn}
@@ -135,12 +135,6 @@ module _ (g : Geometry) (xs : List ℕ) (z : Zones) (t : Tidy g xs z) (b : ℕ) 
 
   pub scan-erase : scanOf (applyOp (g .pages) (erase b) xs) (g .pages) z ≡ scanOf xs (g .pages) z
   scan-erase = scan-outside g xs (applyOp (g .pages) (erase b) xs) z b none (erase-others (g .pages) xs b fits)
-
-  pub tidy-cut-erase : (lets : List ℕ) → Tidy g (cutOp (g .pages) (erase b) lets xs) z
-  tidy-cut-erase lets = tidy-outside g xs (cutOp (g .pages) (erase b) lets xs) z b none (cut-erase-others (g .pages) xs b fits lets) t
-
-  pub scan-cut-erase : (lets : List ℕ) → scanOf (cutOp (g .pages) (erase b) lets xs) (g .pages) z ≡ scanOf xs (g .pages) z
-  scan-cut-erase lets = scan-outside g xs (cutOp (g .pages) (erase b) lets xs) z b none (cut-erase-others (g .pages) xs b fits lets)
 
 -- ---- a checkpoint's last stride
 module _ (g : Geometry) (xs : List ℕ) (ps : List Place) (z : Zones) (t : Tidy g xs z) where

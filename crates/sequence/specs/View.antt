@@ -1,18 +1,15 @@
 -- A plan by its cases: a refusal with its number, or what the command does; and what a refused call leaves of a live world.
-use mathlib.Core.Path.{_≡_, refl, sym, ap, _∙_, subst}
+use mathlib.Core.Path.{_≡_, refl}
 use mathlib.Core.Bool.{Bool, true, false, not, cond, _&&_, _||_}
 use Prim.Native.Nat.{ℕ}
-use mathlib.Core.List.{List}
 use lib.Dec.{eqb}
 use Rattle.model.specs.Answers.{refused}
 use Rattle.model.specs.World.{World, Plan, refuse}
 use Rattle.model.specs.Frame.{frameOk, isIdle, gate}
 use Rattle.model.specs.Transactions.{unless}
-use Rattle.model.specs.Commands.{Call, plan, carried, exec, Outcome}
-use Rattle.model.specs.Book.{Book, Event, called, entering, changing, tell}
-use Rattle.model.specs.declared.Work.{Work}
-use Rattle.model.specs.declared.Work.the-variants.{Idle, Format, Checkpoint, Reclaim}
-use Rattle.arrays.specs.Tests.{clash, decide}
+use Rattle.model.specs.Commands.{Call, plan, carried, exec}
+use Rattle.model.specs.Book.{Book, called, entering, changing, tell}
+use Rattle.arrays.specs.Tests.{clash}
 use Rattle.sequence.specs.Refused.{refused-same}
 use Rattle.sequence.specs.Live.{Live}
 

@@ -2,52 +2,48 @@
 use mathlib.Core.Path.{_≡_, refl, sym, ap, _∙_, subst}
 use mathlib.Core.Logic.{_⊎_, inl, inr, _≢_}
 use mathlib.Core.Bool.{Bool, true, false, not, cond, _&&_, _||_}
-use Prim.Native.Nat.{ℕ, zero, suc, _+_, _-_, _*_, _≤_, _<_}
+use Prim.Native.Nat.{ℕ, zero, suc, _+_, _-_, _≤_, _<_}
 use native.Mathlib.Omega.{arith}
 use mathlib.Core.List.{List, [], _∷_, _++_}
 use lib.ListN.{length, take, getD, set, length-set}
 use lib.Seq.{getD-set-same, getD-set-other}
 use lib.Dec.{eqb, leb, ltb}
-use borrow.Author.Tests.{eqb-true, eqb-false, eq-eqb, ne-eqb, ltb-true, leb-true, leb-false, lt-ltb, le-leb, not-false, not-true}
+use borrow.Author.Tests.{eqb-true, eq-eqb, ne-eqb, ltb-true, leb-true, leb-false, lt-ltb, le-leb, not-false, not-true}
 use Rattle.model.specs.Lists.{all}
-use Rattle.model.specs.Page.{pageBytes, wholeAt, blankAt}
 use Rattle.model.specs.Bytes.{bytes}
 use Rattle.model.specs.Geometry.{dataPage}
 use Rattle.model.specs.Zones.{Entry, entryOf, scanOf}
 use Rattle.model.specs.Recovery.{ofId}
 use Rattle.model.specs.Answers.{refused}
-use Rattle.model.specs.World.{World, Plan, Op, refuse, none, program, applyOp}
+use Rattle.model.specs.World.{World, Plan, none, program, applyOp}
 use Rattle.model.specs.Frame.{noPlace, badId, placeOk, isIdle}
 use Rattle.model.specs.Transactions.{placeOf, withPlace, cleanPages, nextPage, zoneShort, dataBytes, heldAt, holdWith, heldPage, longestChange, written, heldOp, writePlan, planWrite}
-use Rattle.model.specs.Commands.{Call, write, plan, carried, exec, Outcome}
-use Rattle.model.specs.Book.{Book, Write, Event, called, holds, tell, entering, changing, writesOf, addTo}
+use Rattle.model.specs.Commands.{write, plan, carried}
+use Rattle.model.specs.Book.{Book, Write, entering, changing, writesOf, addTo}
 use Rattle.model.specs.Sequence.{fits}
 use Rattle.model.specs.declared.Geometry.{Geometry}
 use Rattle.model.specs.declared.Place.{Place}
 use Rattle.model.specs.declared.Spare.{Spare}
-use Rattle.model.specs.declared.State.{State}
-use Rattle.arrays.specs.Tests.{Is, eqb-cases, clash, decide, and-left, and-right, and-both, and-cases, or-cases, or-false-right, or-left, or-right, all-at}
+use Rattle.arrays.specs.Tests.{Is, eqb-cases, clash, and-left, and-right, and-both, or-cases, or-false-right, or-left, or-right, all-at}
 use Rattle.arrays.specs.Bytelist.{Bytes, bytes-true}
 use Rattle.arrays.specs.Image.{SpareFits}
-use Rattle.arrays.specs.Ranges.{InGeometry}
 use Rattle.front.specs.Local.{SameFront}
 use Rattle.front.specs.Kept.{kept-away}
 use Rattle.scanlog.specs.Log.{ofId-other}
-use Rattle.scanlog.specs.Good.{Plain}
 use Rattle.scanlog.specs.Logged.{Logged, logged-page}
-use Rattle.scanlog.specs.Open.{Open, Opens, openEntry, opens-set, open-noMark, open-first, open-more}
+use Rattle.scanlog.specs.Open.{Open, openEntry, opens-set, open-noMark, open-first, open-more}
 use Rattle.scanlog.specs.Tidy.{Tidy}
-use Rattle.sequence.specs.Places.{PlacesGood, placeAt, places-set, all-by-at, Found, place-found}
+use Rattle.sequence.specs.Places.{placeAt, places-set, all-by-at, Found, place-found}
 use Rattle.sequence.specs.OpenBook.{isOpen, add-own, add-other, add-open}
-use Rattle.sequence.specs.Writes.{Laid, Writes, WholeSame, writes-keep, writes-more}
+use Rattle.sequence.specs.Writes.{Writes, WholeSame, writes-keep, writes-more}
 use Rattle.sequence.specs.Hold.{hold-own, hold-other, hold-long, held-long}
 use Rattle.sequence.specs.Sound.{Sound}
-use Rattle.sequence.specs.Live.{Changing, Live, live-range, live-logged, scanned}
-use Rattle.sequence.specs.View.{View, no, yes, view-test, view-gate, idle-only, Keeps, done-live, view-keeps}
+use Rattle.sequence.specs.Live.{Live, live-range, live-logged, scanned}
+use Rattle.sequence.specs.View.{View, yes, view-test, view-gate, idle-only, Keeps, done-live, view-keeps}
 use Rattle.sequence.specs.Begin.{idle-calm}
 use Rattle.sequence.specs.Abort.{found-apart}
 use Rattle.sequence.specs.Lone.{room-clean}
-use Rattle.sequence.specs.Append.{Appends, appends, appended, next-is-data, next-mapped, next-blank, next-free, append-whole, append-data, append-spare, append-keeps, append-tidy, append-scan, append-front, append-sound, append-contents}
+use Rattle.sequence.specs.Append.{Appends, appends, appended, next-is-data, next-blank, next-free, append-whole, append-data, append-spare, append-keeps, append-tidy, append-scan, append-front, append-sound, append-contents}
 
 -- ---- a place in range, by its parts
 pub record PlaceIn (g : Geometry) (p : Place) : Type 0 where

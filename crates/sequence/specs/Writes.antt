@@ -1,27 +1,26 @@
 -- An open change on the device: the writes of the book against a place, its programmed pages and the held one; and what a commit enters.
-use mathlib.Core.Path.{_≡_, refl, sym, ap, _∙_, subst}
-use mathlib.Core.Logic.{_⊎_, inl, inr, _≢_}
+use mathlib.Core.Path.{_≡_, refl, sym, ap, _∙_}
+use mathlib.Core.Logic.{inl, inr, _≢_}
 use mathlib.Core.Bool.{Bool, true, false, cond}
 use Prim.Native.Nat.{ℕ, zero, suc, _+_, _-_, _≤_, _<_}
 use native.Mathlib.Omega.{arith}
 use mathlib.Core.List.{List, [], _∷_, _++_}
-use lib.ListN.{length, take, getD, set, replicate, length-set, length-append, length-replicate}
-use lib.Seq.{getD-set-same, getD-set-other, take-suc, take-all}
+use lib.ListN.{length, take, getD, set, length-set, length-append, length-replicate}
+use lib.Seq.{getD-set-same, getD-set-other, take-suc}
 use lib.Dec.{eqb}
-use borrow.Author.Tests.{eq-eqb, ne-eqb}
+use borrow.Author.Tests.{ne-eqb}
 use Rattle.model.specs.Page.{pageAt, dataAt, blankAt, wholeAt, spareOf}
-use Rattle.model.specs.Geometry.{unmapped, dataPage, enterPage}
+use Rattle.model.specs.Geometry.{unmapped, dataPage}
 use Rattle.model.specs.Transactions.{heldAt, begun, written, entered}
-use Rattle.model.specs.Book.{Write, Content, never, holds, enterWrite, enterAll}
+use Rattle.model.specs.Book.{Write, Content, enterWrite, enterAll}
 use Rattle.model.specs.declared.Geometry.{Geometry}
 use Rattle.model.specs.declared.Place.{Place}
-use Rattle.model.specs.declared.Spare.{Spare}
 use Rattle.arrays.specs.Tests.{Is, eqb-cases, clash}
 use Rattle.arrays.specs.Bytelist.{Bytes}
 use Rattle.arrays.specs.Pages.{whole-same, data-same}
 use Rattle.arrays.specs.Ranges.{InGeometry, page-most, page-small}
 use Rattle.arrays.specs.Whole.{whole-not-blank}
-use Rattle.scanlog.specs.Occ.{occ, occ-yes, occ-no}
+use Rattle.scanlog.specs.Occ.{occ, occ-no}
 use Rattle.sequence.specs.Maps.{MapGood, good-set, occ-set}
 use Rattle.sequence.specs.Contents.{Contents, contents-set}
 use Rattle.sequence.specs.OpenBook.{enterAll-append}

@@ -1,34 +1,25 @@
--- A call of checkpoint as a whole, done and cut at any bit: the front is kept.
+-- What a stride of a checkpoint does to the array: it is sound, in the front, and what the checkpoint is to hold passes refusal 3.
 use Prim.Native.Nat.{ℕ, _+_, _-_, _*_, _<_, _≤_}
 use native.Mathlib.Omega.{arith}
 use native.Mathlib.Nat.{add-assoc}
-use mathlib.Core.Path.{_≡_, refl, ap}
-use mathlib.Core.Logic.{_⊎_}
+use mathlib.Core.Path.{_≡_, refl}
 use mathlib.Core.Bool.{true}
-use mathlib.Core.List.{List}
 use borrow.Author.Tests.{ltb-false}
 use Rattle.model.specs.Page.{blankAt}
 use Rattle.model.specs.Geometry.{mapPages}
 use Rattle.model.specs.Zones.{zonesOk, slide}
 use Rattle.model.specs.Frame.{frameOk}
-use Rattle.model.specs.World.{World, Plan, applyOp, cutOp}
-use Rattle.model.specs.Strides.{withWork, withZones, withNumber, frontPage, mapStride, zoneStride, otherStride, planCheckpoint}
-use Rattle.model.specs.Commands.{checkpoint, plan, carried, exec}
-use Rattle.model.specs.Sequence.{cutArray}
-use Rattle.model.specs.declared.Geometry.{Geometry}
-use Rattle.arrays.specs.Bytelist.{Bytes}
+use Rattle.model.specs.World.{World, Plan}
+use Rattle.model.specs.Strides.{withWork, withZones, withNumber, frontPage, mapStride, zoneStride, otherStride}
+use Rattle.model.specs.Commands.{checkpoint}
 use Rattle.arrays.specs.Pages.{PageFits, block-page-fits}
-use Rattle.arrays.specs.Ranges.{InGeometry, maps-few, front-fits}
-use Rattle.arrays.specs.Arrays.{Sound, Leans}
+use Rattle.arrays.specs.Ranges.{maps-few, front-fits}
+use Rattle.arrays.specs.Arrays.{Sound}
 use Rattle.front.specs.Base.{InFrame, frame-in}
 use Rattle.front.specs.Blocks.{in-front}
-use Rattle.front.specs.Away.{InFront}
-use Rattle.front.specs.Written.{Saved, Sane}
-use Rattle.front.specs.Front.{Front}
-use Rattle.front.specs.Effect.{sound-did, sound-cut}
-use Rattle.front.specs.Kept.{Kept}
-use Rattle.front.specs.CheckpointStrides.{after, saving, Accepted, Ready, Stride, refuses, erases, maps, zones, checkpoint-stride}
-use Rattle.front.specs.CheckpointFront.{newestThen, stride-did, stride-cut}
+use Rattle.front.specs.InFront.{InFront}
+use Rattle.front.specs.Written.{Sane}
+use Rattle.front.specs.CheckpointStrides.{saving, Accepted, Ready, Stride, refuses, erases, maps, zones}
 use Rattle.front.specs.Moved.{slide-fits}
 use Rattle.front.specs.Programs.{map-page-ok, map-small, zone-page-ok, zones-small}
 
@@ -41,12 +32,6 @@ pub record Holds (w : World) : Type 0 where
 pub saving-sane : (w : World) (j : ℕ) → frameOk w ≡ true → Holds w → Sane (w .state .geometry) (saving w j)
 unfolding saving
 saving-sane w j e h = let f = frame-in w e in record { long = f .lengths .map; entries = f .map; zones = h .moved }
-
-pub then-sane : (w : World) (c : Saved) → Holds w → Sane (w .state .geometry) c → (l : Plan) (s : Stride w l) → Sane (w .state .geometry) (newestThen s c)
-then-sane w c h e l (refuses n r) = e
-then-sane w c h e l (erases a r) = e
-then-sane w c h e l (maps q i a r b) = e
-then-sane w c h e l (zones q a r) = saving-sane w (w .state .front * w .state .geometry .pages + q) (a .frame) h
 
 -- a stride keeps the geometry
 pub stride-geometry : (w : World) (l : Plan) → Stride w l → l .state .geometry ≡ w .state .geometry
@@ -104,39 +89,3 @@ stride-in-front w l (erases a e) = unfold otherStride in omega arith
 stride-in-front w l (maps q i a r h) = let e = r .ends in unfold mapStride in in-front (w .state .geometry .pages) (w .state .front) (q + i) (r .block) (omega arith)
 stride-in-front w l (zones q a r) =
     unfold zoneStride in in-front (w .state .geometry .pages) (w .state .front) (q + mapPages (w .state .geometry)) (r .block) (r .ends)
-
--- ---- the fact
--- the pages a block are those of the plan
-same-keeps : (w : World) (l : Plan) (d : Saved) (p q : ℕ) → q ≡ p → Kept (after (applyOp p (l .op) (w .array)) l) d → Kept (after (applyOp q (l .op) (w .array)) l) d
-same-keeps w l d p q e h = rw e h
-
-same-front : (g : Geometry) (w : World) (l : Plan) (lets : List ℕ) (c d : Saved) (p q : ℕ) → q ≡ p
-    → Front g (cutOp p (l .op) lets (w .array)) c ⊎ Front g (cutOp p (l .op) lets (w .array)) d
-    → Front g (cutOp q (l .op) lets (w .array)) c ⊎ Front g (cutOp q (l .op) lets (w .array)) d
-same-front g w l lets c d p q e h = rw e h
-
-module _ (w : World) (c : Saved) (k : Kept w c) (hg : InGeometry (w .state .geometry)) (h : Holds w) where
-  -- the stride that the call does
-  abbrev does : Stride w (planCheckpoint w)
-  does = checkpoint-stride w c k
-
-  -- done
-  pub checkpoint-keeps : Kept (exec checkpoint w .world) (newestThen (checkpoint-stride w c k) c)
-  unfolding exec carried plan
-  checkpoint-keeps =
-      let l = planCheckpoint w in
-      let p = w .state .geometry .pages in
-      same-keeps w l (newestThen does c) p (l .state .geometry .pages) (ap (λ (g : Geometry). g .pages) (stride-geometry w l does))
-      (stride-did w (applyOp p (l .op) (w .array)) c k (slide-fits (w .state .geometry) (w .array) (w .state .places) (w .state .zones) hg (h .moved)) l does
-      (sound-did p (l .op) (w .array) (stride-sound w h l does)))
-
-  -- cut: the newest is as before, or as if the call were done
-  pub checkpoint-cut : (lets : List ℕ) → Bytes (w .array) → Leans (w .array)
-      → Front (w .state .geometry) (cutArray checkpoint w lets) c ⊎ Front (w .state .geometry) (cutArray checkpoint w lets) (newestThen (checkpoint-stride w c k) c)
-  unfolding cutArray plan
-  checkpoint-cut lets y s =
-      let l = planCheckpoint w in
-      let p = w .state .geometry .pages in
-      same-front (w .state .geometry) w l lets c (newestThen does c) p (l .state .geometry .pages) (ap (λ (g : Geometry). g .pages) (stride-geometry w l does))
-      (stride-cut w (cutOp p (l .op) lets (w .array)) c k (slide-fits (w .state .geometry) (w .array) (w .state .places) (w .state .zones) hg (h .moved)) l does
-      (sound-cut p (l .op) lets (w .array) y (stride-sound w h l does) s))
