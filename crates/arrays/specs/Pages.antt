@@ -1,17 +1,18 @@
 -- Pages and blocks of an array: their lengths and bytes, and what is read where one was replaced.
-use mathlib.Core.Path.{_≡_, refl, ap, _∙_}
+use mathlib.Core.Path.{_≡_, refl, ap, _∙_, subst}
 use mathlib.Core.Bool.{true}
 use mathlib.Core.Logic.{_⊎_, inl, inr}
-use Prim.Native.Nat.{ℕ, suc, _+_, _-_, _*_, _≤_, _<_}
+use Prim.Native.Nat.{ℕ, zero, suc, _+_, _-_, _*_, _≤_, _<_}
 use native.Mathlib.Omega.{arith, ne-cases}
 use native.Mathlib.Nat.{mul-le-mul-right}
 use native.Mathlib.Decide.{decLt}
-use mathlib.Core.List.{List, []}
-use lib.ListN.{length, take, replicate, length-take}
+use mathlib.Core.List.{List, [], _∷_}
+use lib.ListN.{length, take, drop, replicate, length-take, length-drop, take-append-drop}
+use lib.Seq.{drop-drop}
 use Rattle.model.specs.Lists.{part, splice}
 use Rattle.model.specs.Bytes.{allFF}
 use Rattle.model.specs.Page.{pageAt, dataAt, blockAt, putPage, putBlock, blankAt, wholeAt, classOf, isWhole}
-use Rattle.arrays.specs.Bytelist.{Bytes, bytes-take, allFF-is, allFF-replicate}
+use Rattle.arrays.specs.Bytelist.{Bytes, bytes-take, bytes-append, bytes-replicate, allFF-is, allFF-replicate}
 use Rattle.arrays.specs.Splice.{length-part, length-part-min, part-past, part-part, part-replicate, bytes-part, length-splice, bytes-splice, read-inside, read-below, read-above, read-same}
 
 -- ---- where pages and blocks are
@@ -197,3 +198,28 @@ module _ (p : ℕ) (xs : List ℕ) (b : ℕ) (ys : List ℕ) (fits : BlockFits p
 pub page-replicate : (p i : ℕ) → i < p → pageAt (replicate (p * 528) 255) i ≡ replicate 528 255
 unfolding pageAt
 page-replicate p i h = part-replicate (i * 528) (p * 528) 528 255 (omega arith)
+
+-- ---- an array of n pages
+page-zero : (xs : List ℕ) → take 528 xs ≡ pageAt xs 0
+unfolding pageAt part
+page-zero xs = refl
+
+page-later : (xs : List ℕ) (j : ℕ) → pageAt (drop 528 xs) j ≡ pageAt xs (suc j)
+unfolding pageAt part
+page-later xs j =
+    let e : 528 + j * 528 ≡ suc j * 528 = omega arith in
+    ap (take 528) (drop-drop (j * 528) 528 xs) ∙ ap (λ (k : ℕ). take 528 (drop k xs)) e
+
+-- is bytes where its pages are
+pub bytes-pages : (n : ℕ) (xs : List ℕ) → length xs ≡ n * 528 → ((j : ℕ) → j < n → Bytes (pageAt xs j)) → Bytes xs
+bytes-pages zero [] e h = tt
+bytes-pages zero (x ∷ xs) e h = absurd (omega arith)
+bytes-pages (suc n) xs e h =
+    let l : length (drop 528 xs) ≡ n * 528 = length-drop 528 xs ∙ omega arith in
+    subst Bytes (take-append-drop 528 xs)
+    (bytes-append (take 528 xs) (drop 528 xs) (rw (page-zero xs) (h 0 (omega arith))) (bytes-pages n (drop 528 xs) l (λ j k. rw (page-later xs j) (h (suc j) (omega arith)))))
+
+-- an erased page is bytes
+pub blank-bytes : (xs : List ℕ) (k : ℕ) → blankAt xs k ≡ true → Bytes (pageAt xs k)
+unfolding blankAt
+blank-bytes xs k e = rw (allFF-is (pageAt xs k) e) (bytes-replicate (length (pageAt xs k)) 255 (omega arith))

@@ -5,7 +5,7 @@ use mathlib.Core.Bool.{Bool, true, false, false≢true, not, cond, _&&_, _||_}
 use mathlib.Core.List.{List, [], _∷_, _++_, append-assoc, append-nil}
 use Prim.Native.Nat.{ℕ, zero, suc, _+_, _≤_, _<_}
 use native.Mathlib.Omega.{arith}
-use lib.ListN.{length, getD}
+use lib.ListN.{length, getD, replicate}
 use lib.Dec.{eqb}
 use borrow.Author.Tests.{eqb-true, eqb-false, eq-eqb}
 use Rattle.model.specs.Lists.{all, any, allTails, allHeads, find, keep, those, count, elem, same}
@@ -132,6 +132,14 @@ module _ {A : Type 0} where
   all-at p (x ∷ xs) zero d h l = all-head p x xs h
   all-at p (x ∷ xs) (suc i) d h l = all-at p xs i d (all-tail p x xs h) (omega arith)
 
+  pub all-by-at : (p : A → Bool) (d : A) (xs : List A) → ((i : ℕ) → i < length xs → p (getD xs i d) ≡ true) → all p xs ≡ true
+  all-by-at p d [] h = all-nil p
+  all-by-at p d (x ∷ xs) h = all-cons p x xs (h 0 (omega arith)) (all-by-at p d xs (λ i l. h (suc i) (omega arith)))
+
+  pub all-replicate : (p : A → Bool) (x : A) (n : ℕ) → p x ≡ true → all p (replicate n x) ≡ true
+  all-replicate p x zero h = all-nil p
+  all-replicate p x (suc n) h = all-cons p x (replicate n x) h (all-replicate p x n h)
+
   -- some element
   pub any-nil : (p : A → Bool) → any p [] ≡ false
   unfolding any
@@ -149,6 +157,12 @@ module _ {A : Type 0} where
       assoc : (a b c : Bool) → (a || (b || c)) ≡ ((a || b) || c)
       assoc true b c = refl
       assoc false b c = refl
+
+  pub any-at : (p : A → Bool) (xs : List A) (i : ℕ) (d : A) → i < length xs → p (getD xs i d) ≡ true → any p xs ≡ true
+  unfolding any
+  any-at p [] i d h e = absurd (omega arith)
+  any-at p (x ∷ xs) zero d h e = or-left (p x) (any p xs) e
+  any-at p (x ∷ xs) (suc i) d h e = or-right (p x) (any p xs) (any-at p xs i d (omega arith) e)
 
   -- none passes where every element fails
   pub any-none : (p : A → Bool) (xs : List A) → all (λ (x : A). not (p x)) xs ≡ true → any p xs ≡ false
@@ -223,6 +237,15 @@ module _ {A : Type 0} where
       go : (t : Bool) → find p xs ≤ length xs → cond t 0 (suc (find p xs)) ≤ suc (length xs)
       go true h = omega arith
       go false h = omega arith
+
+  pub any-find : (p : A → Bool) (xs : List A) → any p xs ≡ true → find p xs < length xs
+  unfolding any find
+  any-find p [] h = absurd (false≢true h)
+  any-find p (x ∷ xs) h = go (p x) h (any-find p xs)
+    where
+      go : (t : Bool) → (t || any p xs) ≡ true → (any p xs ≡ true → find p xs < length xs) → cond t 0 (suc (find p xs)) < suc (length xs)
+      go true e ih = omega arith
+      go false e ih = omega (arith, ih e)
 
   pub find-passes : (p : A → Bool) (xs : List A) (d : A) → find p xs < length xs → p (getD xs (find p xs) d) ≡ true
   unfolding find

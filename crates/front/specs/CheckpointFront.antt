@@ -18,7 +18,7 @@ use Rattle.model.specs.declared.Work.{Work}
 use Rattle.model.specs.declared.Work.the-variants.{Idle, Format, Checkpoint, Reclaim}
 use Rattle.arrays.specs.Pages.{Outside, Where, inside, away, where-is}
 use Rattle.arrays.specs.Ranges.{maps-few}
-use Rattle.front.specs.Base.{frame-in}
+use Rattle.arrays.specs.Frame.{frame-in}
 use Rattle.front.specs.Complete.{NotWhole}
 use Rattle.front.specs.Replaced.{Off, KeptOrLost}
 use Rattle.front.specs.ZoneBack.{Fits}

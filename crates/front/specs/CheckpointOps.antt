@@ -15,7 +15,7 @@ use Rattle.model.specs.Commands.{checkpoint}
 use Rattle.arrays.specs.Pages.{PageFits, block-page-fits}
 use Rattle.arrays.specs.Ranges.{maps-few, front-fits}
 use Rattle.arrays.specs.Arrays.{Sound}
-use Rattle.front.specs.Base.{InFrame, frame-in}
+use Rattle.arrays.specs.Frame.{InFrame, frame-in}
 use Rattle.front.specs.Blocks.{in-front}
 use Rattle.front.specs.InFront.{InFront}
 use Rattle.front.specs.Written.{Sane}

@@ -2,7 +2,7 @@
 use Prim.Native.Nat.{ℕ, _+_, _-_, _*_, _<_, _≤_}
 use native.Mathlib.Omega.{arith}
 use mathlib.Core.Path.{_≡_, refl, ap, _∙_, subst}
-use mathlib.Core.Bool.{Bool, true, false, cond, _||_}
+use mathlib.Core.Bool.{Bool, true, false, cond}
 use mathlib.Core.List.{List}
 use lib.Dec.{ltb, eqb}
 use borrow.Author.Tests.{ltb-true, ltb-false}
@@ -10,12 +10,12 @@ use Rattle.model.specs.Geometry.{mapPages}
 use Rattle.model.specs.Zones.{usedIn, slide}
 use Rattle.model.specs.World.{World, Plan, refuse}
 use Rattle.model.specs.Answers.{refused}
-use Rattle.model.specs.Frame.{frameOk, isIdle, gate}
+use Rattle.model.specs.Frame.{frameOk, gate}
 use Rattle.model.specs.Transactions.{spent, unless}
 use Rattle.model.specs.Strides.{isCheckpoint, mapStride, zoneStride, pageStride, otherStride, firstStride, checkpointStride, planCheckpoint}
 use Rattle.model.specs.declared.Work.{Work}
 use Rattle.model.specs.declared.Work.the-variants.{Idle, Format, Checkpoint, Reclaim}
-use Rattle.front.specs.Base.{gate-passes, gate-refuses}
+use Rattle.arrays.specs.Frame.{gate-passes, gate-refuses, gate-own}
 use Rattle.front.specs.Written.{Saved}
 use Rattle.front.specs.Front.{Front, front-inside}
 use Rattle.front.specs.Way.{Way, way-first}
@@ -98,14 +98,6 @@ module _ (w : World) where
       go false e b f = refuses (gate (isCheckpoint (w .state .work)) w) (gate-refuses (isCheckpoint (w .state .work)) w e)
 
 -- ---- once under way it is not refused
-pub gate-own : (w : World) → frameOk w ≡ true → gate true w ≡ 0
-unfolding gate
-gate-own w e = rw e (go (isIdle (w .state .work)))
-  where
-    go : (b : Bool) → _≡_ {A = ℕ} (cond (b || true) 0 17) 0
-    go true = refl
-    go false = refl
-
 accepted : (w : World) (n : ℕ) (b : Bool) (l : Plan) → n ≡ 0 → b ≡ false → unless n w (cond b (refuse w 13) l) ≡ l
 accepted w n b l e f = rw (e, f)
 

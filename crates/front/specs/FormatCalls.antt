@@ -25,7 +25,7 @@ use Rattle.model.specs.declared.State.{State}
 use Rattle.model.specs.declared.Work.the-variants.{Idle, Format}
 use Rattle.arrays.specs.Tests.{and-left, and-both, or-left, or-right}
 use Rattle.arrays.specs.Ranges.{InGeometry, in-lengths, geometry-same}
-use Rattle.front.specs.Base.{lent-geometry, lent-lengths}
+use Rattle.arrays.specs.Frame.{lent-geometry, lent-lengths}
 use Rattle.front.specs.Written.{Sane}
 use Rattle.front.specs.Kept.{Kept}
 use Rattle.front.specs.FormatStrides.{formatSaved, Laid, Fresh, laid-start, laid-erase, laid-next, laid-map, laid-last}

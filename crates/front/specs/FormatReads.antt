@@ -19,14 +19,13 @@ use Rattle.model.specs.declared.Geometry.{Geometry}
 use Rattle.model.specs.declared.State.{State}
 use Rattle.arrays.specs.Tests.{and-both}
 use Rattle.arrays.specs.Ranges.{InGeometry}
-use Rattle.front.specs.Base.{lent-geometry}
-use Rattle.front.specs.CheckpointStrides.{gate-own}
+use Rattle.arrays.specs.Frame.{lent-geometry, gate-own}
 use Rattle.front.specs.FormatCalls.{Formats, formatting, stateUnder, blank-map-ok, formats-stride}
 
 -- ---- refusal 1 finds nothing in the state of a format
-pub places-free : (g : Geometry) → placesOk g (replicate 8 freePlace) ≡ true
+pub free-places-ok : (g : Geometry) → placesOk g (replicate 8 freePlace) ≡ true
 unfolding placesOk allTails placeOk badId alone all
-places-free g = refl
+free-places-ok g = refl
 
 pub zones-none : (g : Geometry) → InGeometry g → zonesOk g noZones ≡ true
 unfolding zonesOk zoneListsOk allHeads rising allTails dataBlock
@@ -39,7 +38,7 @@ frame-under g w k f =
     and-both (geometryOk g && lengthsOk g (w .array) (w .map) (w .hold)) _ l
     (and-both (mapOk g (w .map)) _ (rw (f .map) (blank-map-ok g))
     (and-both (zonesOk g noZones) _ (zones-none g (lent-geometry g w l))
-    (and-both (placesOk g (replicate 8 freePlace)) _ (places-free g) (formats-stride g w k f))))
+    (and-both (placesOk g (replicate 8 freePlace)) _ (free-places-ok g) (formats-stride g w k f))))
 
 pub formats-frame : (g : Geometry) (w : World) (k : ℕ) → Formats g w k → frameOk w ≡ true
 formats-frame g w k f =

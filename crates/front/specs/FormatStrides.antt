@@ -15,11 +15,10 @@ use Rattle.model.specs.Checkpoint.{mapPage, zonePage}
 use Rattle.model.specs.World.{program, erase, applyOp}
 use Rattle.model.specs.declared.Geometry.{Geometry}
 use Rattle.arrays.specs.Bytelist.{Bytes}
-use Rattle.arrays.specs.Pages.{BlockFits, blank-same, Where, inside, away, where-is}
+use Rattle.arrays.specs.Pages.{BlockFits, blank-same, Where, inside, away, where-is, bytes-pages, blank-bytes}
 use Rattle.arrays.specs.Ops.{length-apply, bytes-apply}
 use Rattle.arrays.specs.Ranges.{InGeometry, maps-few, any-page-fits, any-block-fits}
 use Rattle.arrays.specs.Arrays.{ProgramOk, Leans, blank-leans, leans-apply}
-use Rattle.front.specs.Base.{bytes-pages, blank-bytes}
 use Rattle.front.specs.Written.{Saved, Written}
 use Rattle.front.specs.Front.{Front, front-first}
 use Rattle.front.specs.Way.{clean-not-whole}

@@ -1,4 +1,3 @@
-pub mod Base
 pub mod Complete
 pub mod Newest
 pub mod Local

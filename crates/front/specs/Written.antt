@@ -16,9 +16,8 @@ use Rattle.model.specs.Checkpoint.{numberAt, mapSpare, zoneSpare, mapPage, zone
 use Rattle.model.specs.Recover.{entriesAt, zonesAt, floorAt, scannedAt}
 use Rattle.model.specs.declared.Geometry.{Geometry}
 use Rattle.model.specs.declared.Zones.{Zones}
-use Rattle.arrays.specs.Tests.{and-both}
+use Rattle.arrays.specs.Tests.{and-both, all-replicate}
 use Rattle.arrays.specs.Ranges.{maps-hold}
-use Rattle.front.specs.Base.{all-replicate}
 use Rattle.arrays.specs.Image.{image-data, image-whole, image-spare}
 use Rattle.front.specs.Complete.{IsPage, Complete, complete-number}
 use Rattle.front.specs.MapBack.{load-map, length-map-bytes}

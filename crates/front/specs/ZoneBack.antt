@@ -11,6 +11,7 @@ use Rattle.model.specs.Bytes.{le32, bytes32}
 use Rattle.model.specs.Zones.{availableOf, unavailableOf, freeOf, listedIn, zonesOf}
 use Rattle.model.specs.Checkpoint.{zoneData, availableIn, unavailableIn, freeIn, zonesIn}
 use Rattle.model.specs.declared.Zones.{Zones}
+use Rattle.arrays.specs.ZoneLists.{zonesOf-available, zonesOf-unavailable, zonesOf-free}
 
 -- the lists are as long as their counts say, and all fit in a page
 pub record Fits (z : Zones) : Type 0 where
@@ -24,23 +25,7 @@ unfoldable pub plain : Zones → Zones
 plain z = zonesOf (availableOf z) (unavailableOf z) (freeOf z) (z .pointer)
 
 -- ---- zones made of lists
-take-pad : (n : ℕ) (a : List ℕ) → take (length a) (padTo n a) ≡ a
-unfolding padTo
-take-pad n a = take-at a _ (length a) refl
-
 module _ (a u f : List ℕ) (p : ℕ) where
-  pub back-available : availableOf (zonesOf a u f p) ≡ a
-  unfolding zonesOf
-  back-available = take-pad 3 a
-
-  pub back-unavailable : unavailableOf (zonesOf a u f p) ≡ u
-  unfolding zonesOf
-  back-unavailable = take-pad 126 u
-
-  pub back-free : freeOf (zonesOf a u f p) ≡ f
-  unfolding zonesOf
-  back-free = take-pad 126 f
-
   pub fits-of : length a + length u + length f ≤ 504 → Fits (zonesOf a u f p)
   unfolding zonesOf padTo
   fits-of h =
@@ -54,15 +39,15 @@ module _ (a u f : List ℕ) (p : ℕ) where
 module _ (z : Zones) where
   pub plain-available : availableOf (plain z) ≡ availableOf z
   unfolding plain
-  plain-available = back-available (availableOf z) (unavailableOf z) (freeOf z) (z .pointer)
+  plain-available = zonesOf-available (availableOf z) (unavailableOf z) (freeOf z) (z .pointer)
 
   pub plain-unavailable : unavailableOf (plain z) ≡ unavailableOf z
   unfolding plain
-  plain-unavailable = back-unavailable (availableOf z) (unavailableOf z) (freeOf z) (z .pointer)
+  plain-unavailable = zonesOf-unavailable (availableOf z) (unavailableOf z) (freeOf z) (z .pointer)
 
   pub plain-free : freeOf (plain z) ≡ freeOf z
   unfolding plain
-  plain-free = back-free (availableOf z) (unavailableOf z) (freeOf z) (z .pointer)
+  plain-free = zonesOf-free (availableOf z) (unavailableOf z) (freeOf z) (z .pointer)
 
 -- ---- three lists and a rest
 module _ (a u f r : List ℕ) (na nu nf : ℕ) (ha : length a ≡ na) (hu : length u ≡ nu) (hf : length f ≡ nf) where

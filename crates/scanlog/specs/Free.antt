@@ -17,10 +17,11 @@ use Rattle.arrays.specs.Tests.{Is, eqb-cases}
 use Rattle.arrays.specs.Pages.{BlockFits}
 use Rattle.arrays.specs.Ranges.{block-least, block-most}
 use Rattle.arrays.specs.Used.{used-erase}
+use Rattle.arrays.specs.ZoneLists.{zonesOf-available, zonesOf-unavailable, zonesOf-free, zonesOf-ok}
 use Rattle.scanlog.specs.Sublist.{Sublist, sub-refl, sub-trans}
 use Rattle.scanlog.specs.Occ.{occ, occ-yes, occ-no, occ-append, Distinct, pigeon}
 use Rattle.scanlog.specs.Rising.{insert-occ, insert-rising, insert-sub}
-use Rattle.scanlog.specs.Shape.{shape, shape-ok, Unlisted, zonesOf-available, zonesOf-unavailable, zonesOf-free, zonesOf-ok}
+use Rattle.scanlog.specs.Shape.{shape, shape-ok, Unlisted}
 use Rattle.scanlog.specs.Order.{Order, each-sub, each-is, is-each}
 use Rattle.scanlog.specs.Tidy.{Tidy, tidy-erase, scan-erase}
 

@@ -2,7 +2,7 @@
 -- as it is, with one mapped page less.
 use mathlib.Core.Path.{_≡_, refl, sym, ap, _∙_, subst}
 use mathlib.Core.Logic.{_⊎_, inl, inr, _≢_}
-use mathlib.Core.Bool.{Bool, true, false, false≢true, cond, _&&_, _||_}
+use mathlib.Core.Bool.{Bool, true, false, cond, _&&_}
 use Prim.Native.Nat.{ℕ, zero, suc, _+_, _-_, _*_, _≤_, _<_}
 use native.Mathlib.Omega.{arith}
 use mathlib.Core.List.{List, [], _∷_}
@@ -14,7 +14,7 @@ use Rattle.model.specs.Zones.{checkpointed}
 use Rattle.model.specs.Checkpoint.{Found, nothing, at}
 use Rattle.model.specs.Strides.{mappedIn, fewer, pickFrom, lowestFrom}
 use Rattle.model.specs.declared.Zones.{Zones}
-use Rattle.arrays.specs.Tests.{decide, clash, not-so, Is, eqb-cases, and-left, and-right, and-both, or-false-left, or-false-right, find-passes}
+use Rattle.arrays.specs.Tests.{decide, clash, not-so, Is, eqb-cases, and-left, and-right, and-both, or-false-left, or-false-right, find-passes, any-find}
 use Rattle.arrays.specs.Pages.{page-apart}
 
 -- ---- the pick of the blocks from lo up to hi
@@ -120,15 +120,6 @@ picks-same z map map′ p lo n b e l h =
     })
 
 -- ---- the mapped pages of a block
-find-lt : (f : ℕ → Bool) (l : List ℕ) → any f l ≡ true → find f l < length l
-unfolding any find
-find-lt f [] h = absurd (false≢true h)
-find-lt f (y ∷ l) h = go (f y) h (find-lt f l)
-  where
-    go : (t : Bool) → (t || any f l) ≡ true → (any f l ≡ true → find f l < length l) → cond t 0 (suc (find f l)) < suc (length l)
-    go true e ih = omega arith
-    go false e ih = omega (arith, ih e)
-
 -- page e is in block b
 abbrev pub inBlock : ℕ → ℕ → ℕ → Bool
 inBlock p b e = leb (b * p) e && ltb e (b * p + p)
@@ -219,7 +210,7 @@ module _ (map : List ℕ) (p b : ℕ) (due : 0 < mappedIn map p b) where
   -- it is mapped, and found again
   pub lowest-found : find (eqb lowest) map < length map
   unfolding elem
-  lowest-found = find-lt (eqb lowest) map (lowest-both .0)
+  lowest-found = any-find (eqb lowest) map (lowest-both .0)
 
   pub lowest-at : (d : ℕ) → getD map (find (eqb lowest) map) d ≡ lowest
   lowest-at d = sym (eqb-true lowest (getD map (find (eqb lowest) map) d) (find-passes (eqb lowest) map d lowest-found))

@@ -1,17 +1,15 @@
--- Zone lists in shape: what refusal 3 passes, by counting; and the lists of a zone record that is made of lists.
+-- Zone lists in shape: what refusal 3 passes, by counting.
 use mathlib.Core.Path.{_≡_, refl}
 use mathlib.Core.Logic.{inl, inr}
 use mathlib.Core.Bool.{true, false, not, _&&_}
 use Prim.Native.Nat.{ℕ, _+_, _-_, _≤_, _<_}
 use native.Mathlib.Omega.{arith}
 use mathlib.Core.List.{List, [], _∷_, _++_}
-use lib.ListN.{length, take, replicate}
-use lib.Seq.{take-append-seam}
 use lib.Dec.{leb}
 use borrow.Author.Tests.{le-leb, leb-true, not-true}
-use Rattle.model.specs.Lists.{allHeads, elem, rising, padTo}
+use Rattle.model.specs.Lists.{allHeads, elem, rising}
 use Rattle.model.specs.Geometry.{dataBlock}
-use Rattle.model.specs.Zones.{availableOf, unavailableOf, freeOf, zonesOf, newBlock, zoneListsOk, zonesOk, checkpointed}
+use Rattle.model.specs.Zones.{availableOf, unavailableOf, freeOf, newBlock, zoneListsOk, zonesOk, checkpointed}
 use Rattle.model.specs.declared.Geometry.{Geometry}
 use Rattle.model.specs.declared.Zones.{Zones}
 use Rattle.arrays.specs.Tests.{Is, eqb-cases, and-left, and-right}
@@ -57,28 +55,6 @@ once-heads g seen (x ∷ bs) h =
     let q = h b (omega (arith, occ-cons b x bs)) in
     record { block = q .block; once = omega (arith, q .once, occ-append b seen (x ∷ []), occ-cons b x bs) }) in
     rw (o .block, z, t)
-
--- ---- the lists of a record that is made of lists
-pad-take : (n : ℕ) (l : List ℕ) → take (length l) (padTo n l) ≡ l
-unfolding padTo
-pad-take n l = take-append-seam l (replicate (n - length l) 0)
-
-module _ (a u f : List ℕ) (p : ℕ) where
-  pub zonesOf-available : availableOf (zonesOf a u f p) ≡ a
-  unfolding zonesOf
-  zonesOf-available = pad-take 3 a
-
-  pub zonesOf-unavailable : unavailableOf (zonesOf a u f p) ≡ u
-  unfolding zonesOf
-  zonesOf-unavailable = pad-take 126 u
-
-  pub zonesOf-free : freeOf (zonesOf a u f p) ≡ f
-  unfolding zonesOf
-  zonesOf-free = pad-take 126 f
-
-  pub zonesOf-ok : (g : Geometry) → zonesOk g (zonesOf a u f p) ≡ zoneListsOk g (length a) (length u) (length f) a u f p
-  unfolding zonesOk zonesOf
-  zonesOf-ok g = rw (pad-take 3 a, pad-take 126 u, pad-take 126 f)
 
 -- ---- zone lists that refusal 3 passes
 pub record Shape (g : Geometry) (na nu nf : ℕ) (a u f : List ℕ) (p : ℕ) : Type 0 where

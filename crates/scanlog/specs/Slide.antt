@@ -16,11 +16,12 @@ use Rattle.model.specs.declared.Zones.{Zones}
 use Rattle.model.specs.declared.Place.{Place}
 use Rattle.arrays.specs.Tests.{and-left}
 use Rattle.arrays.specs.Scan.{Blank, scan-append, scan-blank}
+use Rattle.arrays.specs.ZoneLists.{zonesOf-available, zonesOf-unavailable, zonesOf-free, zonesOf-ok}
 use Rattle.scanlog.specs.Sublist.{Sublist, sub-refl, sub-append, sub-those, sub-length}
 use Rattle.scanlog.specs.Occ.{occ, occ-append, occ-sub, split-occ, split-length}
 use Rattle.scanlog.specs.Rising.{rising-sub}
 use Rattle.scanlog.specs.Log.{ofId-append}
-use Rattle.scanlog.specs.Shape.{Shape, shape, shape-ok, listed-block, zonesOf-available, zonesOf-unavailable, zonesOf-free, zonesOf-ok}
+use Rattle.scanlog.specs.Shape.{Shape, shape, shape-ok, listed-block}
 use Rattle.scanlog.specs.Take.{Took, took-refill}
 use Rattle.scanlog.specs.Order.{Order, each-sub, each-is, is-each, order-sub, order-append}
 use Rattle.scanlog.specs.Judged.{scan-sub, order-leave, Wanted, judged-ofId}

@@ -22,12 +22,12 @@ use Rattle.model.specs.declared.State.{State}
 use Rattle.model.specs.declared.Zones.{Zones}
 use Rattle.arrays.specs.Tests.{and-both}
 use Rattle.arrays.specs.Ranges.{InGeometry, geometry-in, in-lengths}
+use Rattle.arrays.specs.ZoneLists.{zonesOf-ok}
 use Rattle.front.specs.ZoneBack.{Fits, plain, plain-available, plain-unavailable, plain-free}
 use Rattle.front.specs.Written.{Saved}
 use Rattle.front.specs.Kept.{Kept, kept-work, kept-block, recovered-kept}
 use Rattle.front.specs.Recovered.{stateOf, front-state}
 use Rattle.scanlog.specs.Sublist.{sub-refl}
-use Rattle.scanlog.specs.Shape.{zonesOf-ok}
 use Rattle.scanlog.specs.Free.{Grown, grown-scan, grown-tidy}
 use Rattle.scanlog.specs.Logged.{Logged}
 use Rattle.scanlog.specs.Open.{Opens}
@@ -100,8 +100,8 @@ free-at zero i = refl
 free-at (suc n) zero = refl
 free-at (suc n) (suc i) = free-at n i
 
-pub places-free : (g : Geometry) → PlacesGood g (replicate 8 freePlace)
-places-free g = record { ok = each 8; apart = λ i j l k n z. absurd (z (free-at 8 i)) }
+pub free-places-good : (g : Geometry) → PlacesGood g (replicate 8 freePlace)
+free-places-good g = record { ok = each 8; apart = λ i j l k n z. absurd (z (free-at 8 i)) }
   where
     each : (n i : ℕ) → i < length (replicate n freePlace) → placeOk g (getD (replicate n freePlace) i noPlace) ≡ true
     each zero i l = absurd (omega arith)
@@ -150,7 +150,7 @@ sound-live g xs c map version b hold h e = record {
   grown = grown-plain (c .zones);
   tidy = grown-tidy (plain (c .zones)) (c .zones) (plain-grown (c .zones)) g xs (plain-ok g (c .zones) (h .front .fits) (h .sane .zones)) (h .tidy);
   hold = e;
-  places = places-free g;
+  places = free-places-good g;
   opens = free-opens _;
   changing = free-changing xs map hold (closedBook b) refl;
 }

@@ -1,7 +1,7 @@
 -- Transaction places in range: each by itself, no identifier twice; what one new place leaves of that, and where an identifier is found.
 use mathlib.Core.Path.{_≡_, refl, sym, ap, _∙_}
 use mathlib.Core.Logic.{inl, inr, _≢_}
-use mathlib.Core.Bool.{Bool, true, false, not, cond, _&&_, _||_}
+use mathlib.Core.Bool.{true, false, not, cond, _&&_, _||_}
 use Prim.Native.Nat.{ℕ, suc, _<_}
 use native.Mathlib.Omega.{arith}
 use mathlib.Core.List.{List, [], _∷_}
@@ -15,7 +15,7 @@ use Rattle.model.specs.Frame.{noPlace, freePlace, badId, placeOk, alone, places
 use Rattle.model.specs.Transactions.{placeOf, begun}
 use Rattle.model.specs.declared.Geometry.{Geometry}
 use Rattle.model.specs.declared.Place.{Place}
-use Rattle.arrays.specs.Tests.{Is, eqb-cases, clash, and-both, or-left, or-right, all-nil, all-cons, none-all, all-at, find-passes}
+use Rattle.arrays.specs.Tests.{Is, eqb-cases, clash, and-both, or-left, or-right, none-all, all-at, find-passes, all-by-at}
 
 -- ---- definitions
 -- place i
@@ -27,10 +27,6 @@ pub record PlacesGood (g : Geometry) (ps : List Place) : Type 0 where
   pub apart : (i j : ℕ) → i < length ps → j < length ps → i ≢ j → placeAt ps i .id ≢ 0 → placeAt ps j .id ≢ placeAt ps i .id
 
 -- ---- laws
-pub all-by-at : {A : Type 0} (p : A → Bool) (d : A) (xs : List A) → ((i : ℕ) → i < length xs → p (getD xs i d) ≡ true) → all p xs ≡ true
-all-by-at p d [] h = all-nil p
-all-by-at p d (x ∷ xs) h = all-cons p x xs (h 0 (omega arith)) (all-by-at p d xs (λ i l. h (suc i) (omega arith)))
-
 apart-alone : (p : Place) (ps : List Place) → (p .id ≢ 0 → (j : ℕ) → j < length ps → placeAt ps j .id ≢ p .id) → alone p ps ≡ true
 unfolding alone
 apart-alone p ps h = go (eqb-cases (p .id) 0)

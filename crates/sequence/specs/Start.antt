@@ -19,7 +19,7 @@ use Rattle.model.specs.declared.Work.the-variants.{Idle}
 use Rattle.arrays.specs.Tests.{and-left, and-both}
 use Rattle.arrays.specs.Ranges.{InGeometry, in-lengths, block-least, block-most, maps-few}
 use Rattle.arrays.specs.Used.{used-in-none}
-use Rattle.front.specs.Base.{lent-geometry, lent-lengths}
+use Rattle.arrays.specs.Frame.{lent-geometry, lent-lengths}
 use Rattle.front.specs.Kept.{Kept}
 use Rattle.front.specs.FormatStrides.{formatSaved, Fresh}
 use Rattle.front.specs.FormatCalls.{Starts, stateDone, formatted, starts-kept, format-sane, format-finishes}
@@ -29,7 +29,7 @@ use Rattle.scanlog.specs.Start.{format-ok, tidy-format, scan-format}
 use Rattle.sequence.specs.Maps.{blank-good}
 use Rattle.sequence.specs.Contents.{contents-blank}
 use Rattle.sequence.specs.Sound.{Sound, handed}
-use Rattle.sequence.specs.Live.{Live, places-free, free-opens, free-changing}
+use Rattle.sequence.specs.Live.{Live, free-places-good, free-opens, free-changing}
 
 -- the zones of a format pass refusal 3
 pub format-zones-ok : (g : Geometry) → InGeometry g → zonesOk g (formatZones g) ≡ true
@@ -74,7 +74,7 @@ module _ (g : Geometry) (xs hold : List ℕ) (ok : geometryOk g ≡ true) (r : I
     grown = grown-same (formatZones g);
     tidy = tidy-format g big xs erased;
     hold = long;
-    places = places-free g;
+    places = free-places-good g;
     opens = free-opens _;
     changing = free-changing xs (blankMap g) hold (blank g) refl;
   }

@@ -20,7 +20,7 @@ use Rattle.model.specs.Demand3.{Recovers, LiveReads, Demand3, FormatReads}
 use Rattle.model.specs.declared.Geometry.{Geometry}
 use Rattle.model.specs.declared.State.{State}
 use Rattle.model.specs.Zones.{Entry}
-use Rattle.front.specs.Base.{lent-lengths}
+use Rattle.arrays.specs.Frame.{lent-lengths}
 use Rattle.front.specs.Written.{Saved}
 use Rattle.front.specs.Recovered.{stateOf}
 use Rattle.front.specs.FormatReads.{format-reads}

@@ -21,7 +21,8 @@ use Rattle.model.specs.declared.Geometry.{Geometry}
 use Rattle.model.specs.declared.Work.{Work}
 use Rattle.model.specs.declared.Work.the-variants.{Idle, Format, Checkpoint, Reclaim}
 use Rattle.arrays.specs.Tests.{clash}
-use Rattle.front.specs.CheckpointStrides.{gate-own, Stride, refuses, erases, maps, zones, checkpoint-stride, checkpoint-goes-on}
+use Rattle.arrays.specs.Frame.{gate-own}
+use Rattle.front.specs.CheckpointStrides.{Stride, refuses, erases, maps, zones, checkpoint-stride, checkpoint-goes-on}
 use Rattle.scanlog.specs.Reclaim.{GoingOn, stride-goes}
 use Rattle.sequence.specs.Refused.{refused-same, read-same}
 use Rattle.sequence.specs.Live.{Live, live-frame}

@@ -24,7 +24,7 @@ use Rattle.model.specs.Sequence.{fits}
 use Rattle.model.specs.declared.Geometry.{Geometry}
 use Rattle.model.specs.declared.Place.{Place}
 use Rattle.model.specs.declared.Spare.{Spare}
-use Rattle.arrays.specs.Tests.{Is, eqb-cases, clash, and-left, and-right, and-both, or-cases, or-false-right, or-left, or-right, all-at}
+use Rattle.arrays.specs.Tests.{Is, eqb-cases, clash, and-left, and-right, and-both, or-cases, or-false-right, or-left, or-right, all-at, all-by-at}
 use Rattle.arrays.specs.Bytelist.{Bytes, bytes-true}
 use Rattle.arrays.specs.Image.{SpareFits}
 use Rattle.front.specs.Local.{SameFront}
@@ -33,7 +33,7 @@ use Rattle.scanlog.specs.Log.{ofId-other}
 use Rattle.scanlog.specs.Logged.{Logged, logged-page}
 use Rattle.scanlog.specs.Open.{Open, openEntry, opens-set, open-noMark, open-first, open-more}
 use Rattle.scanlog.specs.Tidy.{Tidy}
-use Rattle.sequence.specs.Places.{placeAt, places-set, all-by-at, Found, place-found}
+use Rattle.sequence.specs.Places.{placeAt, places-set, Found, place-found}
 use Rattle.sequence.specs.OpenBook.{isOpen, add-own, add-other, add-open}
 use Rattle.sequence.specs.Writes.{Writes, WholeSame, writes-keep, writes-more}
 use Rattle.sequence.specs.Hold.{hold-own, hold-other, hold-long, held-long}
