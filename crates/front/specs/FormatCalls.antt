@@ -59,7 +59,7 @@ pub data FormatStride (g : Geometry) (k : ℕ) (w : World) : Plan → Type 0 whe
   maps : (i : ℕ) → g .blocks + i ≡ k → i < mapPages g → FormatStride g k w (formatMore g k (program i (mapPage (blankMap g) i 1)) w)
   last : g .blocks + mapPages g ≡ k → FormatStride g k w (formatLast g w)
 
-pub format-stride : (g : Geometry) (k : ℕ) (w : World) → k ≤ g .blocks + mapPages g → FormatStride g k w (formatStride g k w)
+format-stride : (g : Geometry) (k : ℕ) (w : World) → k ≤ g .blocks + mapPages g → FormatStride g k w (formatStride g k w)
 unfolding formatStride
 format-stride g k w l = go (ltb k (g .blocks)) refl (ltb (k - g .blocks) (mapPages g)) refl
   where
@@ -207,7 +207,7 @@ formats-stride g w k f =
         or-right (ltb k (g .blocks)) _ (laid-next g (lent-geometry g w (f .lent)) (w .array) (k - g .blocks) (rw e (f .laid)) (omega arith))
 
 -- once under way it is not refused
-pub format-goes-on : (g : Geometry) (w : World) (k : ℕ) → Formats g w k → planFormat g w ≡ formatStride g k w
+format-goes-on : (g : Geometry) (w : World) (k : ℕ) → Formats g w k → planFormat g w ≡ formatStride g k w
 unfolding planFormat
 format-goes-on g w k f =
     rw (f .lent, work-ok (w .state) (f .state)) (ap (λ (i : ℕ). formatStride g i w) (strides-are g w k (f .state)))

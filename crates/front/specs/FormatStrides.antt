@@ -23,7 +23,7 @@ use Rattle.front.specs.Written.{Saved, Written}
 use Rattle.front.specs.Front.{Front, front-first}
 use Rattle.front.specs.Way.{clean-not-whole}
 use Rattle.front.specs.Effect.{sound-did}
-use Rattle.front.specs.Moved.{format-fits}
+use Rattle.front.specs.ZoneBack.{format-fits}
 use Rattle.front.specs.Programs.{SmallMap, map-page-ok, zone-page-ok, zones-small}
 
 -- what the checkpoint of a format holds

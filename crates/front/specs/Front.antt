@@ -8,8 +8,7 @@ use Rattle.model.specs.Geometry.{mapPages}
 use Rattle.model.specs.Checkpoint.{at, newest, mapSpare, mapPage}
 use Rattle.model.specs.declared.Geometry.{Geometry}
 use Rattle.front.specs.Complete.{Complete, IsPage, NotWhole, complete-whole}
-use Rattle.front.specs.Newest.{Start}
-use Rattle.front.specs.Local.{SameFront, newest-local}
+use Rattle.front.specs.Newest.{Start, SameFront, newest-local}
 use Rattle.front.specs.Replaced.{Below, Off, KeptOrLost, newest-torn, newest-map, newest-lost, newest-first, below-torn, below-map, below-lost, below-first}
 use Rattle.front.specs.ZoneBack.{Fits}
 use Rattle.front.specs.Written.{Saved, Written, written-complete, written-same, map-page-is}
@@ -30,7 +29,7 @@ module _ (g : Geometry) (xs : List ℕ) (c : Saved) (f : Front g xs c) where
   abbrev p : ℕ
   p = g .pages
 
-  pub front-complete : Complete xs (mapPages g) (c .page) (c .number)
+  front-complete : Complete xs (mapPages g) (c .page) (c .number)
   front-complete = written-complete g xs c (f .fits) (f .written)
 
   -- it stands in one front block

@@ -27,20 +27,20 @@ use Rattle.scanlog.specs.Tidy.{Tidy, tidy-erase, scan-erase}
 
 -- ---- the lists of the zones with block b free
 module _ (z : Zones) (b : ℕ) where
-  pub freed-available : availableOf (freed z b) ≡ availableOf z
+  freed-available : availableOf (freed z b) ≡ availableOf z
   unfolding freed
   freed-available = zonesOf-available (availableOf z) (unavailableOf z) (insert b (freeOf z)) (z .pointer)
 
-  pub freed-unavailable : unavailableOf (freed z b) ≡ unavailableOf z
+  freed-unavailable : unavailableOf (freed z b) ≡ unavailableOf z
   unfolding freed
   freed-unavailable = zonesOf-unavailable (availableOf z) (unavailableOf z) (insert b (freeOf z)) (z .pointer)
 
-  pub freed-free : freeOf (freed z b) ≡ insert b (freeOf z)
+  freed-free : freeOf (freed z b) ≡ insert b (freeOf z)
   unfolding freed
   freed-free = zonesOf-free (availableOf z) (unavailableOf z) (insert b (freeOf z)) (z .pointer)
 
   -- the same is scanned
-  pub freed-scan : (xs : List ℕ) (p : ℕ) → scanOf xs p (freed z b) ≡ scanOf xs p z
+  freed-scan : (xs : List ℕ) (p : ℕ) → scanOf xs p (freed z b) ≡ scanOf xs p z
   unfolding scanOf
   freed-scan xs p = rw (freed-available, freed-unavailable)
 
@@ -57,7 +57,7 @@ module _ (g : Geometry) (z : Zones) (b : ℕ) (none : Unlisted z b) (inside : da
   none-listed : occ b (availableOf z ++ (unavailableOf z ++ freeOf z)) ≡ 0
   none-listed = omega (arith, occ-append b (availableOf z) (unavailableOf z ++ freeOf z), occ-append b (unavailableOf z) (freeOf z))
 
-  pub freed-ok : zonesOk g z ≡ true → zonesOk g (freed z b) ≡ true
+  freed-ok : zonesOk g z ≡ true → zonesOk g (freed z b) ≡ true
   unfolding freed
   freed-ok h =
       let a = availableOf z in

@@ -35,7 +35,7 @@ laid id lpns ppns (suc n) = laid id lpns ppns n ++ (openEntry id (getD ppns n 0)
 abbrev pub Open : Place → List Entry → Type 0
 Open p es = ofId (p .id) es ≡ laid (p .id) (p .lpns) (p .ppns) (p .count - 1)
 
-pub laid-zero : (id : ℕ) (lpns ppns : List ℕ) → laid id lpns ppns 0 ≡ []
+laid-zero : (id : ℕ) (lpns ppns : List ℕ) → laid id lpns ppns 0 ≡ []
 unfolding laid
 laid-zero id lpns ppns = refl
 
@@ -47,7 +47,7 @@ entered-suc : (m lpns ppns : List ℕ) (n : ℕ) → entered m lpns ppns (suc n)
 unfolding entered
 entered-suc m lpns ppns n = refl
 
-pub laid-length : (id : ℕ) (lpns ppns : List ℕ) (n : ℕ) → length (laid id lpns ppns n) ≡ n
+laid-length : (id : ℕ) (lpns ppns : List ℕ) (n : ℕ) → length (laid id lpns ppns n) ≡ n
 unfolding laid
 laid-length id lpns ppns zero = refl
 laid-length id lpns ppns (suc n) =
@@ -62,7 +62,7 @@ laid-same id lpns ppns lpns′ ppns′ (suc n) h k =
     rw (laid-same id lpns ppns lpns′ ppns′ n (λ i l. h i (omega arith)) (λ i l. k i (omega arith)), h n (omega arith), k n (omega arith))
 
 -- entered in a map, they are what a commit enters
-pub laid-entered : (m : List ℕ) (id : ℕ) (lpns ppns : List ℕ) (n : ℕ) → enter m (laid id lpns ppns n) ≡ entered m lpns ppns n
+laid-entered : (m : List ℕ) (id : ℕ) (lpns ppns : List ℕ) (n : ℕ) → enter m (laid id lpns ppns n) ≡ entered m lpns ppns n
 unfolding laid entered enter
 laid-entered m id lpns ppns zero = refl
 laid-entered m id lpns ppns (suc n) =

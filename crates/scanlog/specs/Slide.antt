@@ -61,22 +61,22 @@ module _ (g : Geometry) (xs : List ℕ) (ps : List Place) (z : Zones) where
   pub fresh : List ℕ
   fresh = took .taken
 
-  pub slide-available : availableOf (slide g xs ps z) ≡ stay ++ fresh
+  slide-available : availableOf (slide g xs ps z) ≡ stay ++ fresh
   unfolding start fresh
   slide-available = rw slide-is (zonesOf-available (made .available) kept (made .free) (made .pointer) ∙ took .available)
 
-  pub slide-unavailable : unavailableOf (slide g xs ps z) ≡ kept
+  slide-unavailable : unavailableOf (slide g xs ps z) ≡ kept
   slide-unavailable = rw slide-is (zonesOf-unavailable (made .available) kept (made .free) (made .pointer))
 
   slide-free : freeOf (slide g xs ps z) ≡ made .free
   slide-free = rw slide-is (zonesOf-free (made .available) kept (made .free) (made .pointer))
 
   -- free blocks stay free or become available
-  pub slide-free-sub : Sublist (freeOf (slide g xs ps z)) (freeOf z)
+  slide-free-sub : Sublist (freeOf (slide g xs ps z)) (freeOf z)
   unfolding start
   slide-free-sub = rw slide-free (took .sub)
 
-  pub slide-free-each : (b : ℕ) → occ b fresh + occ b (freeOf (slide g xs ps z)) ≡ occ b (freeOf z)
+  slide-free-each : (b : ℕ) → occ b fresh + occ b (freeOf (slide g xs ps z)) ≡ occ b (freeOf z)
   unfolding start fresh
   slide-free-each b = rw slide-free (took .each b)
 
@@ -149,7 +149,7 @@ module _ (g : Geometry) (xs : List ℕ) (ps : List Place) (z : Zones) where
     pub slide-blank : Blank xs (g .pages) (freeOf (slide g xs ps z))
     slide-blank = each-sub (λ (c : ℕ). usedIn xs (g .pages) c ≡ 0) slide-free-sub blank
 
-    pub slide-scan : scanOf xs (g .pages) (slide g xs ps z) ≡ scanIn xs (g .pages) kept ++ near
+    slide-scan : scanOf xs (g .pages) (slide g xs ps z) ≡ scanIn xs (g .pages) kept ++ near
     unfolding scanOf near
     slide-scan =
         let p = g .pages in
@@ -182,7 +182,7 @@ module _ (g : Geometry) (xs : List ℕ) (ps : List Place) (z : Zones) where
         slide-sub = rw (slide-scan, scan-before) (sub-append (scan-sub xs (g .pages) (sub-those (holdsWanted xs (g .pages) ps near) others)) (sub-refl near))
 
         -- what is wanted is scanned as before
-        pub slide-ofId : (id : ℕ) → Wanted ps near id → ofId id (scanOf xs (g .pages) (slide g xs ps z)) ≡ ofId id (scanOf xs (g .pages) z)
+        slide-ofId : (id : ℕ) → Wanted ps near id → ofId id (scanOf xs (g .pages) (slide g xs ps z)) ≡ ofId id (scanOf xs (g .pages) z)
         unfolding kept
         slide-ofId id w =
             let p = g .pages in

@@ -44,14 +44,14 @@ outside-same : (xs ys : List ℕ) (p b : ℕ) (bs : List ℕ) → OtherBlock p b
 outside-same xs ys p b bs o n = each-map (λ (c : ℕ). c ≢ b) (λ (c : ℕ). SamePages xs ys (c * p) p) o bs (away b bs n)
 
 module _ (g : Geometry) (xs ys : List ℕ) (z : Zones) (b : ℕ) (none : Unlisted z b) (o : OtherBlock (g .pages) b xs ys) where
-  pub tidy-outside : Tidy g xs z → Tidy g ys z
+  tidy-outside : Tidy g xs z → Tidy g ys z
   tidy-outside t = record {
     ok = t .ok;
     order = order-stays xs ys (g .pages) (availableOf z) (outside-same xs ys (g .pages) b (availableOf z) o (omega arith)) (t .order);
     blank = blank-stays xs ys (g .pages) (freeOf z) (outside-same xs ys (g .pages) b (freeOf z) o (omega arith)) (t .blank);
   }
 
-  pub scan-outside : scanOf ys (g .pages) z ≡ scanOf xs (g .pages) z
+  scan-outside : scanOf ys (g .pages) z ≡ scanOf xs (g .pages) z
   scan-outside = scanOf-same xs ys (g .pages) z (outside-same xs ys (g .pages) b (unavailableOf z) o (omega arith)) (outside-same xs ys (g .pages) b (availableOf z) o (omega arith))
 
 -- ---- the next page of the available blocks
@@ -83,7 +83,7 @@ module _ (g : Geometry) (xs : List ℕ) (z : Zones) (t : Tidy g xs z) (clean : 0
     available-once : Distinct (availableOf z)
     available-once c = omega (arith, each-once g z (t .ok) c)
 
-    pub tidy-next : Tidy g ys z
+    tidy-next : Tidy g ys z
     tidy-next = record {
       ok = t .ok;
       order = order-next xs ys (g .pages) (availableOf z) available-once clean o (t .order);

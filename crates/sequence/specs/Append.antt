@@ -19,7 +19,7 @@ use Rattle.arrays.specs.Ranges.{page-least, page-most, page-small}
 use Rattle.arrays.specs.Ops.{length-apply, length-cut, bytes-apply, bytes-cut, program-other, cut-program-other}
 use Rattle.arrays.specs.Image.{SpareFits, image-spare}
 use Rattle.arrays.specs.Arrays.{ProgramOk, image-ok, programmed-whole, programmed-data, programmed-spare, program-keeps, cut-program-keeps, leans-apply, leans-cut}
-use Rattle.front.specs.Local.{SameFront}
+use Rattle.front.specs.Newest.{SameFront}
 use Rattle.front.specs.Front.{front-away}
 use Rattle.scanlog.specs.Occ.{occ}
 use Rattle.scanlog.specs.Logged.{Logged}
@@ -88,7 +88,7 @@ module _ (w : World) (b : Book) (h : Live w b) (clean : 0 < cleanPages w) (d : L
   pub append-keeps : WholeSame xs appended
   append-keeps = program-keeps (g .pages) xs k (pageBytes d s) append-ok
 
-  pub cut-keeps : (lets : List ℕ) → WholeSame xs (cutOp (g .pages) op lets xs)
+  cut-keeps : (lets : List ℕ) → WholeSame xs (cutOp (g .pages) op lets xs)
   cut-keeps lets = cut-program-keeps (g .pages) xs k (pageBytes d s) append-ok lets
 
   -- ---- zones and scan

@@ -138,7 +138,7 @@ module _ (w : World) (b : Book) (id : ℕ) (h : Live w b) (small : id < 42949672
       other j l (inl q) = λ e. n (sym e ∙ ap (λ (i : ℕ). placeAt ps i .id) (q .0) ∙ free-found ps (h .changing .eight) room .1)
       other j l (inr q) = rw (at-other j (q .0)) at (k j l)
 
-  pub begin-live : Live (placed w slot (begun id)) after
+  begin-live : Live (placed w slot (begun id)) after
   begin-live = live-place w b after slot (begun id) h idle refl
       (places-set (w .state .geometry) ps slot (begun id) (h .places) (begun-ok (w .state .geometry) id name) (λ z j l n. unfold begun in unused j l))
       (opens-set ps (scanned w) (scanned w) slot (begun id) (h .opens) (λ z. open-begun id (scanned w) off) (λ j l n z. refl))

@@ -23,10 +23,10 @@ use Rattle.arrays.specs.Bytelist.{Bytes}
 use Rattle.arrays.specs.Ops.{length-apply, length-cut, bytes-apply, bytes-cut}
 use Rattle.arrays.specs.Arrays as operation
 use Rattle.arrays.specs.Arrays.{Leans, leans-apply, leans-cut, sound-range}
-use Rattle.front.specs.InFront.{SameData, front-done, front-cut}
+use Rattle.front.specs.Blocks.{SameData, front-done, front-cut}
 use Rattle.front.specs.Front.{Front}
 use Rattle.front.specs.Kept.{Kept}
-use Rattle.front.specs.Moved.{slide-fits}
+use Rattle.front.specs.ZoneBack.{slide-fits}
 use Rattle.front.specs.Effect.{sound-did, sound-cut}
 use Rattle.front.specs.CheckpointStrides.{after, saving, Stride, refuses, erases, maps, zones, checkpoint-stride}
 use Rattle.front.specs.CheckpointFront.{newestThen, stride-did, stride-cut}
@@ -56,7 +56,7 @@ module _ (w : World) (b : Book) (h : Live w b) where
   slid-tidy : Tidy g xs slid
   slid-tidy = tidy-slide g xs (w .state .places) (w .state .zones) (h .tidy)
 
-  pub live-holds : Holds w
+  live-holds : Holds w
   live-holds = record { version = omega (arith, h .sound .last); moved = slid-tidy .ok }
 
   abbrev does : Stride w (planCheckpoint w)
@@ -68,11 +68,11 @@ module _ (w : World) (b : Book) (h : Live w b) where
     spares z ok = front-spares g xs ys z (w .map) ok (h .sound .good) same
 
     -- with the same newest checkpoint
-    pub same-sound : Front g ys (h .saved) → Sound g ys (h .saved) (w .map) (w .state .version) (b .pages)
+    same-sound : Front g ys (h .saved) → Sound g ys (h .saved) (w .map) (w .state .version) (b .pages)
     same-sound f = spared-sound g xs ys (w .state .zones) (w .map) (spares (w .state .zones) (h .tidy .ok)) (h .saved) (w .state .version) (b .pages) (h .grown) long y l f (h .sound)
 
     -- with the one that the last stride completes
-    pub next-sound : (j : ℕ) → spent (w .state .checkpoint) 1 ≡ false → Front g ys (saving w j) → Sound g ys (saving w j) (w .map) (w .state .version) (b .pages)
+    next-sound : (j : ℕ) → spent (w .state .checkpoint) 1 ≡ false → Front g ys (saving w j) → Sound g ys (saving w j) (w .map) (w .state .version) (b .pages)
     unfolding saving
     next-sound j n f =
         let s = spares slid (slid-tidy .ok) in
@@ -98,7 +98,7 @@ module _ (w : World) (b : Book) (h : Live w b) where
     still-changing = spared-changing g xs ys (w .state .zones) (w .map) (spares (w .state .zones) (h .tidy .ok)) (w .hold) (w .state .places) b (h .opens) (h .changing)
 
     -- a stride before the last
-    pub more-strides : (s : State) → s .geometry ≡ g → s .zones ≡ w .state .zones → s .version ≡ w .state .version → s .places ≡ w .state .places
+    more-strides : (s : State) → s .geometry ≡ g → s .zones ≡ w .state .zones → s .version ≡ w .state .version → s .places ≡ w .state .places
         → Kept (record { array = ys; map = w .map; hold = w .hold; state = s }) (h .saved) → Live (record { array = ys; map = w .map; hold = w .hold; state = s }) b
     more-strides s a c d f k = record {
       saved = h .saved;
@@ -113,7 +113,7 @@ module _ (w : World) (b : Book) (h : Live w b) where
     }
 
     -- the last stride
-    pub last-stride : (j : ℕ) → spent (w .state .checkpoint) 1 ≡ false → (s : State) → s .geometry ≡ g → s .zones ≡ slid → s .version ≡ w .state .version
+    last-stride : (j : ℕ) → spent (w .state .checkpoint) 1 ≡ false → (s : State) → s .geometry ≡ g → s .zones ≡ slid → s .version ≡ w .state .version
         → s .places ≡ w .state .places → Kept (record { array = ys; map = w .map; hold = w .hold; state = s }) (saving w j) → Live (record { array = ys; map = w .map; hold = w .hold; state = s }) b
     unfolding saving
     last-stride j n s a c d f k = record {

@@ -46,7 +46,7 @@ pub cut-refused : (c : Call) (w : World) (b : Book) (lets : List ℕ) → Live w
 cut-refused c w b lets h n e = cut-none c w b lets h (ap (λ (p : Plan). p .op) e)
 
 -- a call that enters nothing: whatever turned
-pub cut-quiet : (c : Call) (w : World) (b : Book) (lets : List ℕ) → entering c b ≡ b .pages → Stored (w .state .geometry) (cutArray c w lets) (b .pages) → CutKeeps c w b lets
+cut-quiet : (c : Call) (w : World) (b : Book) (lets : List ℕ) → entering c b ≡ b .pages → Stored (w .state .geometry) (cutArray c w lets) (b .pages) → CutKeeps c w b lets
 unfolding cutEvent tell
 cut-quiet c w b lets e s = rw (e, either (programs (plan c w .op) && everyTurned (dueBits (plan c w .state .geometry .pages) (plan c w .op) (w .array)) (turnedBits (plan c w .state .geometry .pages) (plan c w .op) lets (w .array)))) s
   where
@@ -55,7 +55,7 @@ cut-quiet c w b lets e s = rw (e, either (programs (plan c w .op) && everyTurned
     either false = refl
 
 -- a data page appended: all of it is there, or none
-pub cut-append : (c : Call) (w : World) (b b′ : Book) (lets : List ℕ) (p : Plan) → Live w b → plan c w ≡ p → Appends w b p → Live (after p w) b′ → b′ .pages ≡ entering c b → CutKeeps c w b lets
+cut-append : (c : Call) (w : World) (b b′ : Book) (lets : List ℕ) (p : Plan) → Live w b → plan c w ≡ p → Appends w b p → Live (after p w) b′ → b′ .pages ≡ entering c b → CutKeeps c w b lets
 unfolding cutArray cutEvent tell
 cut-append c w b b′ lets p h e a live pages = rw (e, a .does, a .geometry) (go (everyTurned (dueBits n op (w .array)) (turnedBits n op lets (w .array))) refl)
   where

@@ -70,7 +70,7 @@ module _ (w : World) (b : Book) (h : Live w b) where
   pub live-logged : Logged (w .state .geometry .logical) (h .saved .version) (h .saved .map) (scanned w) (w .map) (w .state .version)
   live-logged = rw (grown-scan (h .saved .zones) (w .state .zones) (h .grown) (w .array) (w .state .geometry .pages)) at (h .sound .logged)
 
-  pub live-lent : lentOk (w .state .geometry) w ≡ true
+  live-lent : lentOk (w .state .geometry) w ≡ true
   unfolding lentOk
   live-lent =
       let g = w .state .geometry in

@@ -33,7 +33,7 @@ use Rattle.arrays.specs.Image.{SpareFits}
 use Rattle.arrays.specs.Whole.{whole-not-blank}
 use Rattle.arrays.specs.Ops.{length-apply, length-cut, bytes-apply, bytes-cut, program-other, erase-other, erase-others, cut-erase-other, cut-erase-others}
 use Rattle.arrays.specs.Arrays.{leans-apply, leans-cut}
-use Rattle.front.specs.Local.{SameFront}
+use Rattle.front.specs.Newest.{SameFront}
 use Rattle.front.specs.Front.{front-away}
 use Rattle.front.specs.Kept.{calm, kept-away}
 use Rattle.scanlog.specs.Occ.{occ, occ-nil, occ-cons, occ-no}
@@ -54,7 +54,7 @@ use Rattle.sequence.specs.Spared.{Spared, spared-changing, spared-sound,
 
 -- ---- the plan
 -- nothing is under way but a reclaim
-pub reclaim-calm : (k : Work) → (isIdle k || isReclaim k) ≡ true → calm k ≡ true
+reclaim-calm : (k : Work) → (isIdle k || isReclaim k) ≡ true → calm k ≡ true
 reclaim-calm Idle h = refl
 reclaim-calm (Format k) h = h
 reclaim-calm (Checkpoint k) h = h
@@ -229,7 +229,7 @@ module _ (w : World) (b : Book) (h : Live w b) (c : ℕ) (on : GoingOn w c) wher
     spared : Spared g xs erased (w .state .zones) (w .map)
     spared = block-spares g xs erased (w .state .zones) (w .map) c unlisted (erase-other (g .pages) xs c inside) (erase-others (g .pages) xs c inside) outside
 
-    pub free-live : Live (carried (freeStride c w) w .world) b
+    free-live : Live (carried (freeStride c w) w .world) b
     unfolding carried freeStride withWork withZones
     free-live = record {
       saved = h .saved;

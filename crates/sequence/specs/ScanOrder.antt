@@ -24,7 +24,7 @@ use Rattle.arrays.specs.Tests.{Is, eqb-cases, and-right}
 use Rattle.arrays.specs.Bytelist.{bytes-true}
 use Rattle.arrays.specs.Ranges.{page-least}
 use Rattle.front.specs.ZoneBack.{plain}
-use Rattle.front.specs.InFront.{InFront}
+use Rattle.front.specs.Blocks.{InFront}
 use Rattle.front.specs.Recovered.{stateOf}
 use Rattle.front.specs.CheckpointStrides.{zones, checkpoint-stride}
 use Rattle.front.specs.CheckpointOps.{stride-in-front}

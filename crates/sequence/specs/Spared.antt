@@ -24,7 +24,7 @@ use Rattle.arrays.specs.Pages.{SamePages, OtherBlock, Outside, whole-same, data
 use Rattle.arrays.specs.Ranges.{block-least, page-least}
 use Rattle.arrays.specs.Arrays.{Leans}
 use Rattle.arrays.specs.Scan.{SameBlocks, each-map, each-append, entry-whole, entry-none, blank-stays}
-use Rattle.front.specs.InFront.{SameData}
+use Rattle.front.specs.Blocks.{SameData}
 use Rattle.front.specs.Written.{Saved}
 use Rattle.front.specs.Front.{Front}
 use Rattle.scanlog.specs.Occ.{occ}
@@ -124,7 +124,7 @@ module _ (g : Geometry) (xs ys : List ℕ) (z : Zones) (map : List ℕ) (s : Spa
   spared-contents ps c = contents-keep xs ys map ps (λ k n o w. s .mapped k n o) c
 
   -- the zones of the checkpoint are spared with the live ones
-  pub spared-saved : (z₀ : Zones) → Grown z₀ z → Spared g xs ys z₀ map
+  spared-saved : (z₀ : Zones) → Grown z₀ z → Spared g xs ys z₀ map
   spared-saved z₀ h = record {
     available = rw (h .available) (s .available);
     unavailable = rw (h .unavailable) (s .unavailable);
@@ -133,7 +133,7 @@ module _ (g : Geometry) (xs ys : List ℕ) (z : Zones) (map : List ℕ) (s : Spa
   }
 
   -- the pages of an open change
-  pub spared-page : (p : Place) → Open p (scanOf xs (g .pages) z) → (j : ℕ) → suc j < p .count → pageAt ys (getD (p .ppns) j 0) ≡ pageAt xs (getD (p .ppns) j 0)
+  spared-page : (p : Place) → Open p (scanOf xs (g .pages) z) → (j : ℕ) → suc j < p .count → pageAt ys (getD (p .ppns) j 0) ≡ pageAt xs (getD (p .ppns) j 0)
   unfolding scanOf ofId
   spared-page p o j l =
       let k : Entries (Kept xs ys) (scanIn xs (g .pages) (unavailableOf z ++ availableOf z))

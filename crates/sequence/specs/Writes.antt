@@ -2,8 +2,8 @@
 use mathlib.Core.Path.{_≡_, refl, sym, ap, _∙_}
 use mathlib.Core.Logic.{inl, inr, _≢_}
 use mathlib.Core.Bool.{Bool, true, false, cond}
-use Prim.Native.Nat.{ℕ, zero, suc, _+_, _-_, _≤_, _<_}
-use native.Mathlib.Omega.{arith}
+use Prim.Native.Nat.{ℕ, zero, suc, _+_, _-_, _≤_, _<_, _*_}
+use native.Mathlib.Omega.{arith, ne-cases}
 use mathlib.Core.List.{List, [], _∷_, _++_}
 use lib.ListN.{length, take, getD, set, length-set, length-append, length-replicate}
 use lib.Seq.{getD-set-same, getD-set-other, take-suc}
@@ -11,7 +11,7 @@ use lib.Dec.{eqb}
 use borrow.Author.Tests.{ne-eqb}
 use Rattle.model.specs.Page.{pageAt, dataAt, blankAt, wholeAt, spareOf}
 use Rattle.model.specs.Geometry.{unmapped, dataPage}
-use Rattle.model.specs.Transactions.{heldAt, begun, written, entered}
+use Rattle.model.specs.Transactions.{heldAt, begun, written, entered, holdWith}
 use Rattle.model.specs.Book.{Write, Content, enterWrite, enterAll}
 use Rattle.model.specs.declared.Geometry.{Geometry}
 use Rattle.model.specs.declared.Place.{Place}
@@ -20,13 +20,14 @@ use Rattle.arrays.specs.Bytelist.{Bytes}
 use Rattle.arrays.specs.Pages.{whole-same, data-same}
 use Rattle.arrays.specs.Ranges.{InGeometry, page-most, page-small}
 use Rattle.arrays.specs.Whole.{whole-not-blank}
+use Rattle.arrays.specs.Splice.{length-part, length-splice, read-same, read-below, read-above}
 use Rattle.scanlog.specs.Occ.{occ, occ-no}
 use Rattle.sequence.specs.Maps.{MapGood, good-set, occ-set}
 use Rattle.sequence.specs.Contents.{Contents, contents-set}
 use Rattle.sequence.specs.OpenBook.{enterAll-append}
 
 -- ---- definitions
-abbrev pub noWrite : Write
+abbrev noWrite : Write
 noWrite = record { lpn = 0; bytes = [] }
 
 abbrev pub writeAt : List Write → ℕ → Write
@@ -66,6 +67,26 @@ at-new [] x zero h = refl
 at-new [] x (suc j) h = absurd (omega arith)
 at-new (w ∷ ws) x zero h = absurd (omega arith)
 at-new (w ∷ ws) x (suc j) h = at-new ws x j (omega arith)
+
+-- ---- the hold: the bytes of a place after a write, its own and the others'
+module _ (hold : List ℕ) (i : ℕ) (d : List ℕ) (long : length hold ≡ 4096) (low : i < 8) (whole : length d ≡ 512) where
+  pub hold-own : heldAt i (holdWith hold i d) ≡ d
+  unfolding heldAt holdWith
+  hold-own = read-same hold d (512 * i) 512 (omega arith) whole
+
+  pub hold-other : (j : ℕ) → j ≢ i → heldAt j (holdWith hold i d) ≡ heldAt j hold
+  unfolding heldAt holdWith
+  hold-other j n = ne-cases j i _ n
+      (λ l. read-below hold d (512 * i) 512 (omega arith) whole (512 * j) 512 (omega arith))
+      (λ l. read-above hold d (512 * i) 512 (omega arith) whole (512 * j) 512 (omega arith))
+
+  pub hold-long : length (holdWith hold i d) ≡ 4096
+  unfolding holdWith
+  hold-long = length-splice hold d (512 * i) 512 (omega arith) ∙ long
+
+pub held-long : (hold : List ℕ) (i : ℕ) → length hold ≡ 4096 → i < 8 → length (heldAt i hold) ≡ 512
+unfolding heldAt
+held-long hold i e l = length-part (512 * i) 512 hold (omega arith)
 
 -- ---- kept
 pub laid-keep : (xs ys map map′ : List ℕ) (id k : ℕ) (d : List ℕ) → WholeSame xs ys → occ k map′ ≡ 0 → Laid xs map id k d → Laid ys map′ id k d
