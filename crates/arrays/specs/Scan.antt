@@ -1,7 +1,6 @@
 -- The whole pages of blocks as entries: what a page gives, what programs, erases and cuts do to a block's entries, and the page that is taken next.
 use mathlib.Core.Path.{_≡_, refl, sym, ap, ap₂, _∙_, subst}
-use mathlib.Core.Bool.{Bool, true, false, _&&_}
-use mathlib.Core.Logic.{_⊎_, inl, inr}
+use mathlib.Core.Bool.{Bool, true, false}
 use Prim.Native.Nat.{ℕ, zero, suc, _+_, _-_, _*_, _≤_, _<_}
 use native.Mathlib.Omega.{arith}
 use mathlib.Core.List.{List, [], _∷_, _++_, append-assoc, append-nil}
@@ -9,15 +8,13 @@ use lib.Dec.{ltb}
 use borrow.Author.Tests.{ltb-true, ltb-false}
 use Rattle.model.specs.Lists.{all}
 use Rattle.model.specs.Page.{spareOf, pageAt, blankAt, wholeAt, usedFrom}
-use Rattle.model.specs.World.{Op, program, erase, applyOp, cutOp, programs, everyTurned, dueBits, turnedBits}
+use Rattle.model.specs.World.{program, applyOp}
 use Rattle.model.specs.Zones.{usedIn, cleanIn, nextIn, Entry, entryOf, entryAt, wholeFrom, scanIn}
-use Rattle.arrays.specs.Tests.{all-head, all-tail, all-cons, all-nil}
-use Rattle.arrays.specs.Bytelist.{Bytes}
-use Rattle.arrays.specs.Pages.{BlockFits, Other, SamePages, other-block, blank-same, whole-same}
-use Rattle.arrays.specs.Ops.{erase-blank}
+use Rattle.arrays.specs.Tests.{all-head, all-tail}
+use Rattle.arrays.specs.Pages.{Other, SamePages, other-block, blank-same, whole-same}
 use Rattle.arrays.specs.Whole.{blank-not-whole}
 use Rattle.arrays.specs.Used.{used-clean, used-in-le, used-in-clean, used-in-same, used-in-more}
-use Rattle.arrays.specs.Arrays.{ProgramOk, Sound, Leans, programmed, programmed-whole, cut-either}
+use Rattle.arrays.specs.Arrays.{ProgramOk, programmed, programmed-whole}
 
 -- ---- what a page gives
 pub entry-whole : (xs : List ℕ) (k : ℕ) → wholeAt xs k ≡ true → entryAt xs k ≡ entryOf k (spareOf (pageAt xs k)) ∷ []
@@ -40,16 +37,6 @@ pub entry-programmed : (p : ℕ) (xs : List ℕ) (k : ℕ) (new : List ℕ) → 
 entry-programmed p xs k new ok =
     let ys = applyOp p (program k new) xs in
     entry-whole ys k (programmed-whole p xs k new ok) ∙ ap (λ (q : List ℕ). entryOf k (spareOf q) ∷ []) (programmed p xs k new ok)
-
--- a cut that the book does not count: each page gives what it gave, or nothing
-pub entry-cut : (p : ℕ) (op : Op) (lets xs : List ℕ) → Bytes xs → Sound p op xs → Leans xs
-    → (programs op && everyTurned (dueBits p op xs) (turnedBits p op lets xs)) ≡ false
-    → (j : ℕ) → (entryAt (cutOp p op lets xs) j ≡ entryAt xs j) ⊎ (entryAt (cutOp p op lets xs) j ≡ [])
-entry-cut p op lets xs y h s t j = go (cut-either p op lets xs y h s t j)
-  where
-    go : (pageAt (cutOp p op lets xs) j ≡ pageAt xs j) ⊎ (wholeAt (cutOp p op lets xs) j ≡ false) → (entryAt (cutOp p op lets xs) j ≡ entryAt xs j) ⊎ (entryAt (cutOp p op lets xs) j ≡ [])
-    go (inl e) = inl (entry-same xs (cutOp p op lets xs) j e)
-    go (inr e) = inr (entry-none (cutOp p op lets xs) j e)
 
 -- ---- n pages from page f on
 pub run-zero : (xs : List ℕ) (f : ℕ) → wholeFrom xs f 0 ≡ []
@@ -123,9 +110,6 @@ block-next xs ys p b room o = run-next xs ys (b * p) p room o
 pub block-clean : (xs : List ℕ) (p b : ℕ) → usedIn xs p b ≡ 0 → wholeFrom xs (b * p) p ≡ []
 block-clean xs p b e = run-blank xs (b * p) p (λ i l. used-in-clean xs p b i (omega arith) l)
 
-pub block-erased : (p : ℕ) (xs : List ℕ) (b : ℕ) → BlockFits p xs b → wholeFrom (applyOp p (erase b) xs) (b * p) p ≡ []
-block-erased p xs b fits = run-blank (applyOp p (erase b) xs) (b * p) p (erase-blank p xs b fits)
-
 -- ---- lists of blocks
 -- each of them
 abbrev pub Each : (ℕ → Type 0) → List ℕ → Type 0
@@ -143,10 +127,6 @@ each-append P (a ∷ cs) bs h k = (h .0, each-append P cs bs (h .1) k)
 pub each-true : (t : ℕ → Bool) (bs : List ℕ) → all t bs ≡ true → Each (λ (c : ℕ). t c ≡ true) bs
 each-true t [] h = tt
 each-true t (b ∷ bs) h = (all-head t b bs h, each-true t bs (all-tail t b bs h))
-
-pub true-each : (t : ℕ → Bool) (bs : List ℕ) → Each (λ (c : ℕ). t c ≡ true) bs → all t bs ≡ true
-true-each t [] h = all-nil t
-true-each t (b ∷ bs) h = all-cons t b bs (h .0) (true-each t bs (h .1))
 
 -- ys agrees with xs on their pages
 abbrev pub SameBlocks : List ℕ → List ℕ → ℕ → List ℕ → Type 0
@@ -188,11 +168,6 @@ module _ (xs ys : List ℕ) (p : ℕ) where
   unfolding cleanIn
   clean-same [] s = refl
   clean-same (b ∷ bs) s = rw (used-in-same xs ys p b (s .0), clean-same bs (s .1))
-
-  pub next-same : (bs : List ℕ) → SameBlocks xs ys p bs → nextIn ys p bs ≡ nextIn xs p bs
-  unfolding nextIn
-  next-same [] s = refl
-  next-same (b ∷ bs) s = rw (used-in-same xs ys p b (s .0), next-same bs (s .1))
 
   pub blank-stays : (bs : List ℕ) → SameBlocks xs ys p bs → Blank xs p bs → Blank ys p bs
   blank-stays [] s h = tt

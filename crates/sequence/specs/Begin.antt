@@ -77,6 +77,7 @@ begin-view id w =
 
 module _ (w : World) (b : Book) (id : ℕ) (h : Live w b) (small : id < 4294967296) (idle : isIdle (w .state .work) ≡ true) (name : badId id ≡ false) (fresh : liveId id w ≡ false)
     (room : leb 8 (find (hasId 0) (w .state .places)) ≡ false) where
+  -- the places, and the lowest free one
   abbrev ps : List Place
   ps = w .state .places
 
@@ -98,6 +99,7 @@ module _ (w : World) (b : Book) (id : ℕ) (h : Live w b) (small : id < 42949672
   unfolding liveId
   off = or-false-right (active id ps) _ fresh
 
+  -- the book after it
   abbrev after : Book
   after = record { pages = b .pages; changes = b .changes ++ (opened id ∷ []) }
 

@@ -66,6 +66,7 @@ loneSpare lpn v = record { lpn = lpn; cnt = 1; id = 0; ver = v; kind = 0; reserv
 
 module _ (w : World) (b : Book) (h : Live w b) (clean : 0 < cleanPages w) (lpn : ℕ) (d : List ℕ) (long : length d ≡ 512) (small : Bytes d)
     (low : lpn < w .state .geometry .logical) (more : spent (w .state .version) 1 ≡ false) where
+  -- its numbers fit their fields
   abbrev pub loneFits : SpareFits (loneSpare lpn (w .state .version + 1))
   loneFits =
       let r = live-range w b h in
