@@ -35,8 +35,7 @@ use Rattle.sequence.specs.Contents.{Contents}
 use Rattle.sequence.specs.Places.{placeAt, places-set, free-ok, Found, place-found}
 use Rattle.sequence.specs.Writes.{Laid, Writes, Enters, Entered, WholeSame, writeAt, laid-keep, enters-all, held-long}
 use Rattle.sequence.specs.Live.{Live, live-range, live-logged, scanned}
-use Rattle.sequence.specs.View.{View, yes, view-test, view-gate, view-cond, idle-only, Keeps, done-live, view-keeps}
-use Rattle.sequence.specs.Begin.{idle-calm}
+use Rattle.sequence.specs.View.{View, yes, view-test, view-gate, view-cond, idle-only, Keeps, done-live, view-keeps, idle-calm}
 use Rattle.sequence.specs.Abort.{changing-close, found-apart, forget-live}
 use Rattle.sequence.specs.Lone.{changing-grow, room-clean}
 use Rattle.sequence.specs.PlaceIn.{PlaceIn, place-in, first-passes, good-name}

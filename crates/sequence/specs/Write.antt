@@ -38,8 +38,7 @@ use Rattle.sequence.specs.OpenBook.{isOpen, add-own, add-other, add-open
 use Rattle.sequence.specs.Writes.{Writes, WholeSame, writes-keep, writes-more, hold-own, hold-other, hold-long, held-long}
 use Rattle.sequence.specs.Sound.{Sound}
 use Rattle.sequence.specs.Live.{Live, live-range, live-logged, scanned}
-use Rattle.sequence.specs.View.{View, yes, view-test, view-gate, idle-only, Keeps, done-live, view-keeps}
-use Rattle.sequence.specs.Begin.{idle-calm}
+use Rattle.sequence.specs.View.{View, yes, view-test, view-gate, idle-only, Keeps, done-live, view-keeps, idle-calm}
 use Rattle.sequence.specs.Abort.{found-apart}
 use Rattle.sequence.specs.Lone.{room-clean}
 use Rattle.sequence.specs.Append.{Appends, appends, appended, next-is-data, next-blank, next-free, append-whole, append-data, append-spare, append-keeps, append-tidy, append-scan, append-front, append-sound, append-contents}
