@@ -9,7 +9,7 @@ use lib.ListN.{length, replicate}
 use Rattle.model.specs.Page.{pageAt, dataAt, blankAt, wholeAt, spareOf, pageBytes, classOf}
 use Rattle.model.specs.Geometry.{unmapped, dataPage}
 use Rattle.model.specs.Zones.{Entry, availableOf, scanOf, entryOf, cleanIn, nextIn}
-use Rattle.model.specs.World.{World, Op, program, applyOp, dueBits, turnedBits, everyTurned, cutOp}
+use Rattle.model.specs.World.{World, Op, Plan, program, applyOp, dueBits, turnedBits, everyTurned, cutOp}
 use Rattle.model.specs.Transactions.{cleanPages, nextPage}
 use Rattle.model.specs.Book.{Book, Content}
 use Rattle.model.specs.declared.Geometry.{Geometry}
@@ -32,8 +32,20 @@ use Rattle.scanlog.specs.Free.{Grown, grown-scan, grown-tidy}
 use Rattle.sequence.specs.Maps.{MapGood}
 use Rattle.sequence.specs.Contents.{Contents, contents-keep, blank-unmapped}
 use Rattle.sequence.specs.Writes.{WholeSame}
-use Rattle.sequence.specs.Sound.{Sound}
+use Rattle.sequence.specs.Sound.{Sound, Stored}
 use Rattle.sequence.specs.Live.{Live, live-range, scanned}
+
+-- plan p appends a data page: what it programs on the next page; torn, it leaves the pages of the book as they are
+pub record Appends (w : World) (b : Book) (p : Plan) : Type 0 where
+  pub new : List ℕ
+  pub clean : 0 < cleanPages w
+  pub ok : ProgramOk (w .array) (nextPage w) new
+  pub does : p .op ≡ program (nextPage w) new
+  pub geometry : p .state .geometry ≡ w .state .geometry
+  pub zones : p .state .zones ≡ w .state .zones
+  pub torn : (lets : List ℕ)
+      → everyTurned (dueBits (w .state .geometry .pages) (program (nextPage w) new) (w .array)) (turnedBits (w .state .geometry .pages) (program (nextPage w) new) lets (w .array)) ≡ false
+      → Stored (w .state .geometry) (cutOp (w .state .geometry .pages) (program (nextPage w) new) lets (w .array)) (b .pages)
 
 module _ (w : World) (b : Book) (h : Live w b) (clean : 0 < cleanPages w) (d : List ℕ) (s : Spare) (long : length d ≡ 512) (small : Bytes d) (fit : SpareFits s) where
   abbrev g : Geometry
@@ -129,7 +141,7 @@ module _ (w : World) (b : Book) (h : Live w b) (clean : 0 < cleanPages w) (d : L
   append-contents = contents-keep xs appended (w .map) (b .pages) (λ j n o y. append-keeps j y) (h .sound .contents)
 
   -- ---- cut short: the array is sound as it was
-  pub cut-sound : (lets : List ℕ) → everyTurned (dueBits (g .pages) op xs) (turnedBits (g .pages) op lets xs) ≡ false
+  cut-sound : (lets : List ℕ) → everyTurned (dueBits (g .pages) op xs) (turnedBits (g .pages) op lets xs) ≡ false
       → Sound g (cutOp (g .pages) op lets xs) (h .saved) (w .map) (w .state .version) (b .pages)
   cut-sound lets f =
       let ys = cutOp (g .pages) op lets xs in
@@ -149,3 +161,15 @@ module _ (w : World) (b : Book) (h : Live w b) (clean : 0 < cleanPages w) (d : L
         last = h .sound .last;
         numbered = h .sound .numbered;
       }
+
+  -- ---- a plan that does so
+  pub appends : (p : Plan) → p .op ≡ op → p .state .geometry ≡ g → p .state .zones ≡ w .state .zones → Appends w b p
+  appends p e n z = record {
+    new = pageBytes d s;
+    clean = clean;
+    ok = append-ok;
+    does = e;
+    geometry = n;
+    zones = z;
+    torn = λ lets t. record { saved = h .saved; map = w .map; version = w .state .version; sound = cut-sound lets t };
+  }

@@ -39,6 +39,7 @@ use Rattle.front.specs.Effect.{sound-did, sound-cut}
 use Rattle.front.specs.CheckpointStrides.{after, saving, Accepted, Ready, Stride, refuses, erases, maps, zones, checkpoint-stride}
 use Rattle.front.specs.CheckpointFront.{newestThen, stride-did, stride-cut}
 use Rattle.front.specs.CheckpointCalls.{Holds, saving-sane, stride-geometry, stride-sound, stride-in-front}
+use Rattle.scanlog.specs.Sublist.{Sublist, sub-refl}
 use Rattle.scanlog.specs.Logged.{Logged, logged-saved}
 use Rattle.scanlog.specs.Open.{Opens, opens-same, place-active}
 use Rattle.scanlog.specs.Slide.{slide-active}
@@ -177,6 +178,22 @@ module _ (w : World) (b : Book) (h : Live w b) where
       let s = zones q a r in
       done-live checkpoint w b l e (unfold zoneStride in refl) (unfold carried zoneStride withWork withZones withNumber entering changing in
       last-stride (ys l s) (done-data l s) (done-long l s) (done-bytes l s) (done-leans l s) (w .state .front * g .pages + q) (a .number) (zoneStride q (mapPages g) w .state) refl refl refl refl (done-kept l s))
+
+  -- what is scanned then: all of it, or after the last stride what did not leave, in order
+  pub stride-scan : (l : Plan) → Stride w l → Sublist (scanned (carried l w .world)) (scanned w)
+  stride-scan l (refuses n r) = unfold carried applyOp in sub-refl (scanned w)
+  stride-scan l (erases a i) =
+      let s = erases a i in
+      let t = spared-scan g xs (ys l s) (w .state .zones) (w .map) (spares (ys l s) (done-data l s) (done-long l s) (done-bytes l s) (done-leans l s) (w .state .zones) (h .tidy .ok)) in
+      unfold carried otherStride withWork in rw t (sub-refl (scanned w))
+  stride-scan l (maps q i a r m) =
+      let s = maps q i a r m in
+      let t = spared-scan g xs (ys l s) (w .state .zones) (w .map) (spares (ys l s) (done-data l s) (done-long l s) (done-bytes l s) (done-leans l s) (w .state .zones) (h .tidy .ok)) in
+      unfold carried mapStride withWork in rw t (sub-refl (scanned w))
+  stride-scan l (zones q a r) =
+      let s = zones q a r in
+      let t = spared-scan g xs (ys l s) slid (w .map) (spares (ys l s) (done-data l s) (done-long l s) (done-bytes l s) (done-leans l s) slid (slid-tidy .ok)) in
+      unfold carried zoneStride withWork withZones withNumber in rw t (sub-slide g xs (w .state .places) (w .state .zones) (h .tidy) (omega (arith, live-range w b h .pages-least)))
 
   pub checkpoint-live : Keeps checkpoint w b
   checkpoint-live = stride-keeps (planCheckpoint w) does refl

@@ -45,7 +45,7 @@ use Rattle.sequence.specs.Begin.{idle-calm}
 use Rattle.sequence.specs.Abort.{changing-close, found-apart, forget-live}
 use Rattle.sequence.specs.Lone.{changing-grow, room-clean}
 use Rattle.sequence.specs.Write.{PlaceIn, place-in, first-passes, good-name}
-use Rattle.sequence.specs.Append.{appended, next-is-data, next-mapped, next-blank, next-free, append-whole, append-data, append-spare, append-keeps, append-tidy, append-scan, append-front, append-sound, append-contents}
+use Rattle.sequence.specs.Append.{Appends, appends, appended, next-is-data, next-mapped, next-blank, next-free, append-whole, append-data, append-spare, append-keeps, append-tidy, append-scan, append-front, append-sound, append-contents}
 
 -- ---- the plan
 pub data Commits (w : World) (id : ℕ) : Plan → Type 0 where
@@ -116,10 +116,10 @@ module _ (w : World) (b : Book) (h : Live w b) (id i : ℕ) (idle : isIdle (w .s
       pick (inl e) = good-name (p .id) e
       pick (inr e) = absurd (some (e .0))
 
-  abbrev pub markSpare : Spare
+  abbrev markSpare : Spare
   markSpare = record { lpn = heldPage p; cnt = p .count; id = p .id; ver = v; kind = 0; reserved = 0 }
 
-  pub mark-fits : SpareFits markSpare
+  mark-fits : SpareFits markSpare
   mark-fits = record {
     lpn = omega (arith, lpn-low n (omega arith), live-range w b h .logical-most);
     cnt = omega (arith, inside .few);
@@ -129,16 +129,16 @@ module _ (w : World) (b : Book) (h : Live w b) (id i : ℕ) (idle : isIdle (w .s
     reserved = omega arith;
   }
 
-  abbrev pub markData : List ℕ
+  abbrev markData : List ℕ
   markData = heldAt i (w .hold)
 
-  pub mark-long : length markData ≡ 512
+  mark-long : length markData ≡ 512
   mark-long = held-long (w .hold) i (h .hold) low8
 
-  pub mark-small : Bytes markData
+  mark-small : Bytes markData
   mark-small = own .bytes (omega arith)
 
-  pub clean : 0 < cleanPages w
+  clean : 0 < cleanPages w
   clean = room-clean w b h short
 
   abbrev k : ℕ
@@ -261,6 +261,11 @@ module _ (w : World) (b : Book) (h : Live w b) (id i : ℕ) (idle : isIdle (w .s
     changing = changing-grow (w .array) ys (w .map) map′ (w .hold) (set ps i freePlace) told told refl keeps others-free
         (changing-close (w .array) (w .map) (w .hold) ps b id i f (h .changing) (found-apart w b id i h f) told refl);
   }
+
+  -- it appends the mark
+  pub mark-appends : Appends w b (markPlan i p w)
+  mark-appends = appends w b h clean markData markSpare mark-long mark-small mark-fits (markPlan i p w)
+      (unfold markPlan dataBytes in refl) (unfold markPlan withPlace withVersion in refl) (unfold markPlan withPlace withVersion in refl)
 
 -- "With nothing written, commit is done with no page and no version"
 nothing-written : (w : World) (b : Book) (h : Live w b) (id i : ℕ) → Found (w .state .places) id i → placeAt (w .state .places) i .count ≡ 0

@@ -21,3 +21,6 @@ pub mod Cuts
 pub mod Start
 pub mod SameShape
 pub mod Theorem
+pub mod ScanOrder
+pub mod UnderWay
+pub mod Claims

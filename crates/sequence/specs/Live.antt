@@ -132,7 +132,7 @@ closedBook b = record { pages = b .pages; changes = [] }
 plain-grown : (z : Zones) → Grown (plain z) z
 plain-grown z = record { available = plain-available z; unavailable = plain-unavailable z; free = rw (plain-free z) (sub-refl (freeOf z)) }
 
-grown-plain : (z : Zones) → Grown z (plain z)
+pub grown-plain : (z : Zones) → Grown z (plain z)
 grown-plain z = record { available = sym (plain-available z); unavailable = sym (plain-unavailable z); free = rw (plain-free z) (sub-refl (freeOf z)) }
 
 plain-ok : (g : Geometry) (z : Zones) → Fits z → zonesOk g z ≡ true → zonesOk g (plain z) ≡ true

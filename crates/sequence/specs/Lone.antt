@@ -42,7 +42,7 @@ use Rattle.sequence.specs.Writes.{Laid, Writes, WholeSame, writes-keep}
 use Rattle.sequence.specs.Live.{Changing, Live, live-range, live-logged, scanned}
 use Rattle.sequence.specs.View.{View, no, yes, view-test, view-gate, idle-only, Keeps, done-live, view-keeps}
 use Rattle.sequence.specs.Begin.{idle-calm}
-use Rattle.sequence.specs.Append.{appended, next-is-data, next-mapped, next-blank, next-free, append-whole, append-data, append-keeps, append-tidy, append-scan, append-front, append-sound, append-contents}
+use Rattle.sequence.specs.Append.{Appends, appends, appended, next-is-data, next-mapped, next-blank, next-free, append-whole, append-data, append-keeps, append-tidy, append-scan, append-front, append-sound, append-contents}
 
 -- ---- the open changes while the array grows
 -- every place keeps its writes
@@ -137,6 +137,13 @@ lone-live w b lpn d h small v =
       changing = changing-grow (w .array) ys (w .map) (loneMap lpn w) (w .hold) (w .state .places) b _ refl (append-keeps w b h clean d s (v .long) small fit)
           (λ j l z. laid-still (w .array) (w .map) lpn k (next-blank w b h clean d s (v .long) small fit) (placeAt (w .state .places) j .id)) (h .changing);
     }
+
+-- it appends its page
+pub lone-appends : (w : World) (b : Book) (lpn : ℕ) (d : List ℕ) → Live w b → Bytes d → Lones w lpn d (lonePlan lpn d w) → Appends w b (lonePlan lpn d w)
+lone-appends w b lpn d h small v =
+    let clean = room-clean w b h (v .room) in
+    appends w b h clean d (loneSpare lpn (w .state .version + 1)) (v .long) small (loneFits w b h clean lpn d (v .long) small (v .low) (v .more)) (lonePlan lpn d w)
+    (unfold lonePlan dataBytes in refl) (unfold lonePlan withVersion in refl) (unfold lonePlan withVersion in refl)
 
 pub lone-keeps : (w : World) (b : Book) (lpn : ℕ) (d : List ℕ) → Live w b → fits (lone lpn d) ≡ true → Keeps (lone lpn d) w b
 unfolding plan fits

@@ -8,7 +8,7 @@ use native.Mathlib.Nat.{mul-le-mul-right}
 use mathlib.Core.List.{List, [], _∷_, _++_}
 use lib.ListN.{length, replicate, length-replicate}
 use Rattle.model.specs.Page.{blankAt}
-use Rattle.model.specs.Geometry.{geometryOk, lengthsOk, blankMap, mapPages, dataBlock}
+use Rattle.model.specs.Geometry.{geometryOk, lengthsOk, unmapped, blankMap, mapPages, dataBlock}
 use Rattle.model.specs.Zones.{Entry, usedIn, scanOf, formatZones, zonesOk}
 use Rattle.model.specs.World.{World}
 use Rattle.model.specs.Frame.{freePlace, lentOk, freshState}
@@ -17,13 +17,14 @@ use Rattle.model.specs.Book.{Book, never, blank}
 use Rattle.model.specs.Sequence.{Formatted}
 use Rattle.model.specs.declared.Geometry.{Geometry}
 use Rattle.model.specs.declared.State.{State}
-use Rattle.arrays.specs.Tests.{and-left}
-use Rattle.arrays.specs.Ranges.{InGeometry, block-least, block-most, maps-few}
+use Rattle.model.specs.declared.Work.the-variants.{Idle}
+use Rattle.arrays.specs.Tests.{and-left, and-both}
+use Rattle.arrays.specs.Ranges.{InGeometry, in-lengths, block-least, block-most, maps-few}
 use Rattle.arrays.specs.Used.{used-in-none}
 use Rattle.front.specs.Base.{lent-geometry, lent-lengths}
 use Rattle.front.specs.Kept.{Kept}
 use Rattle.front.specs.FormatStrides.{formatSaved, Fresh}
-use Rattle.front.specs.FormatCalls.{Starts, stateDone, formatted, starts-kept, format-sane}
+use Rattle.front.specs.FormatCalls.{Starts, stateDone, formatted, starts-kept, format-sane, format-finishes}
 use Rattle.scanlog.specs.Logged.{Logged, logged-start}
 use Rattle.scanlog.specs.Tidy.{Tidy}
 use Rattle.scanlog.specs.Free.{grown-same}
@@ -93,3 +94,15 @@ formatted-live g w h = go (formatted g (format-zones-ok g) w h)
         let k : Kept (handed (w .array) (blankMap g) (w .hold) (stateDone g)) (formatSaved g) = rw (s .state, s .map) at (starts-kept g w s) in
         let l = start-live g (w .array) (w .hold) (unfold lentOk in and-left (geometryOk g) (lengthsOk g (w .array) (w .map) (w .hold)) (s .lent)) (lent-geometry g w (s .lent)) (lent-lengths g w (s .lent) .hold) (s .fresh) k in
         (shape (w .state) (s .state), rw (s .state, s .map) l)
+
+-- no work is under way
+pub formatted-idle : (g : Geometry) (w : World) → Formatted g w → w .state .work ≡ Idle
+formatted-idle g w h = ap (λ (s : State). s .work) (formatted g (format-zones-ok g) w h .state) ∙ (unfold withNumber withZones freshState in refl)
+
+-- there is such a world, for every geometry in range: a format of idle buffers in range comes to its end
+pub some-formatted : (g : Geometry) → geometryOk g ≡ true → (w : World) × Formatted g w
+some-formatted g ok = format-finishes g (format-zones-ok g) (handed (replicate (g .blocks * g .pages * 528) 0) (blankMap g) (replicate 4096 0) (freshState g)) lent (unfold freshState in refl)
+  where
+    lent : lentOk g (handed (replicate (g .blocks * g .pages * 528) 0) (blankMap g) (replicate 4096 0) (freshState g)) ≡ true
+    lent = unfold lentOk blankMap in and-both (geometryOk g) _ ok (in-lengths g (replicate (g .blocks * g .pages * 528) 0) (replicate (g .logical) unmapped) (replicate 4096 0)
+        (record { array = length-replicate {A = ℕ} (g .blocks * g .pages * 528) 0; map = length-replicate {A = ℕ} (g .logical) unmapped; hold = length-replicate {A = ℕ} 4096 0 }))

@@ -29,7 +29,7 @@ use Rattle.front.specs.Base.{lent-lengths}
 use Rattle.front.specs.Written.{Saved}
 use Rattle.front.specs.Recovered.{stateOf}
 use Rattle.front.specs.FormatReads.{format-reads}
-use Rattle.sequence.specs.Refused.{refused-same, read-same, keeps-plan}
+use Rattle.sequence.specs.Refused.{refused-same, read-same, recover-none, keeps-plan}
 use Rattle.sequence.specs.Sound.{Sound, Stored, handed, recovered, sound-recovers}
 use Rattle.sequence.specs.Live.{Live, live-reads, closedBook, sound-live}
 use Rattle.sequence.specs.View.{Keeps, told-refused, refused-live}
@@ -136,25 +136,6 @@ kept-call g (abort id) w b f a h = record { shape = shape-after (abort id) w g (
 kept-call g (read lpn) w b f a h = rw (read-same lpn w) (record { shape = h .shape; world = read-live w b lpn (exec (read lpn) w .answer) (h .world) })
 kept-call g checkpoint w b f a h = record { shape = shape-after checkpoint w g (planCheckpoint w) (unfold plan in refl) (same-checkpoint w) (h .shape); world = checkpoint-live w b (h .world) }
 kept-call g reclaim w b f a h = record { shape = shape-after reclaim w g (planReclaim w) (unfold plan in refl) (same-reclaim w) (h .shape); world = reclaim-keeps w b (h .world) }
-
--- recover does nothing to the array
-from-none : (g : Geometry) (w : World) (f : Found) → recoverFrom g w f .op ≡ none
-unfolding recoverFrom recoverPlan
-from-none g w nothing = refl
-from-none g w (at k) = go (not (loadOk g (entriesAt g (w .array) k) (zonesAt g (w .array) k))) (not (pagesGood (g .logical) (scannedAt g (w .array) k)))
-  where
-    go : (s t : Bool) → cond s (refuse w 3) (cond t (refuse w 4) (recoverPlan g k w)) .op ≡ none
-    go true t = refl
-    go false true = refl
-    go false false = refl
-
-recover-none : (g : Geometry) (w : World) → plan (recover g) w .op ≡ none
-unfolding plan planRecover
-recover-none g w = go (lentOk g w) (newest (w .array) (mapPages g) (g .pages))
-  where
-    go : (t : Bool) (f : Found) → cond t (recoverFrom g w f) (refuse w 1) .op ≡ none
-    go true f = from-none g w f
-    go false f = refl
 
 -- ---- a cut in a call
 kept-cut : (g : Geometry) (c : Call) (w : World) (b : Book) (lets : List ℕ) → fits c ≡ true → Allowed g c w → LiveAt g w b → CutKeeps c w b lets

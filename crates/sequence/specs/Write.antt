@@ -47,7 +47,7 @@ use Rattle.sequence.specs.View.{View, no, yes, view-test, view-gate, idl
 use Rattle.sequence.specs.Begin.{idle-calm}
 use Rattle.sequence.specs.Abort.{found-apart}
 use Rattle.sequence.specs.Lone.{room-clean}
-use Rattle.sequence.specs.Append.{appended, next-is-data, next-mapped, next-blank, next-free, append-whole, append-data, append-spare, append-keeps, append-tidy, append-scan, append-front, append-sound, append-contents}
+use Rattle.sequence.specs.Append.{Appends, appends, appended, next-is-data, next-mapped, next-blank, next-free, append-whole, append-data, append-spare, append-keeps, append-tidy, append-scan, append-front, append-sound, append-contents}
 
 -- ---- a place in range, by its parts
 pub record PlaceIn (g : Geometry) (p : Place) : Type 0 where
@@ -249,7 +249,7 @@ module _ (w : World) (b : Book) (h : Live w b) (id lpn : ℕ) (d : List ℕ) (id
         other j l (inl e) = λ r. c i low8 (ap (λ (t : Place). t .id) at-own ∙ q-id ∙ sym (f .is) ∙ ap (λ (m : ℕ). placeAt ps m .id) (sym (e .0)) ∙ r)
         other j l (inr e) = rw (at-other j (e .0)) at (c j l)
 
-    pub held-live : Live then told
+    held-live : Live then told
     unfolding withPlace
     held-live = record {
       saved = h .saved;
@@ -283,31 +283,31 @@ module _ (w : World) (b : Book) (h : Live w b) (id lpn : ℕ) (d : List ℕ) (id
     inside : PlaceIn g p
     inside = place-in g p (h .places .ok i (f .low))
 
-    pub held-low : heldPage p < g .logical
+    held-low : heldPage p < g .logical
     held-low = ltb-true (heldPage p) (g .logical) (first-passes (λ (l : ℕ). ltb l (g .logical)) (p .count) (p .lpns) (omega (arith, own .lpns, inside .few)) (inside .lpns) (p .count - 1) (omega arith))
 
-    pub held-name : p .id ≢ 4294967295
+    held-name : p .id ≢ 4294967295
     held-name = good-name (p .id) named
 
-    abbrev pub pageSpare : Spare
+    abbrev pageSpare : Spare
     pageSpare = record { lpn = heldPage p; cnt = 0; id = p .id; ver = 0; kind = 0; reserved = 0 }
 
-    pub page-fits : SpareFits pageSpare
+    page-fits : SpareFits pageSpare
     page-fits = record { lpn = omega (arith, held-low, live-range w b h .logical-most); cnt = omega arith; id = own .small; ver = omega arith; kind = omega arith; reserved = omega arith }
 
-    abbrev pub pageData : List ℕ
+    abbrev pageData : List ℕ
     pageData = heldAt i (w .hold)
 
-    pub data-long : length pageData ≡ 512
+    data-long : length pageData ≡ 512
     data-long = held-long (w .hold) i (h .hold) low8
 
-    pub data-small : Bytes pageData
+    data-small : Bytes pageData
     data-small = own .bytes (omega (arith, some-count))
       where
         some-count : 0 < p .count
         some-count = omega arith
 
-    pub clean : 0 < cleanPages w
+    clean : 0 < cleanPages w
     clean = room-clean w b h short
 
     abbrev k : ℕ
@@ -349,6 +349,11 @@ module _ (w : World) (b : Book) (h : Live w b) (id lpn : ℕ) (d : List ℕ) (id
           free = next-free w b h clean pageData pageSpare data-long data-small page-fits;
         })
         (λ n. next-blank w b h clean pageData pageSpare data-long data-small page-fits))
+
+    -- it appends that page
+    pub page-appends : Appends w b (writePlan i p lpn d w)
+    page-appends = appends w b h clean pageData pageSpare data-long data-small page-fits (writePlan i p lpn d w)
+        (unfold writePlan heldOp dataBytes in rw (ne-eqb (p .count) 0 many)) (unfold writePlan withPlace in refl) (unfold writePlan withPlace in refl)
 
   pub write-live : (p .count ≢ 0 → zoneShort w ≡ false) → Live (carried (writePlan i p lpn d w) w .world) (record { pages = b .pages; changes = addTo id x (b .changes) })
   unfolding carried writePlan heldOp applyOp dataBytes withPlace
