@@ -103,18 +103,12 @@ copy-requires c κs =
 returns : tie.Need-returns
 unfolding zoneData
 returns c =
-    let z = c .before .before .before .before .before .before .args .z in
-    let r = c .before .before .before .before .before .listed .result in
-    let la : length (z .available) ≡ 3 = search needs in
-    let lu : length (z .unavailable) ≡ 126 = search needs in
-    let lf : length (z .free) ≡ 126 = search needs in
-    let k = kept-count r (listedIn z) (c .before .before .before .before .before .listed .ensures) in
-    let n = listed-few z (c .before .before .before .before .before .before .pre) la lu lf in
-    let m : length (r .list) ≡ 126 = search needs in
-    let v = c .before .before .before .before .before .before .args .version in
-    let h : List ℕ = bytes32 v ++ (z .pointer ∷ z .na ∷ z .nu ∷ z .nf ∷ []) in
-    list-stored h (listOf r) _ 512 (omega (arith, length-take-le (r .n) (r .list) (omega arith))) (c .before .copy .ensures .1)
-    ∙ ap (λ (l : List ℕ). padTo 512 (h ++ l)) (kept-list r (listedIn z) (c .before .before .before .before .before .listed .ensures))
+    let a = c .before .before .before .before .before .before .args in
+    let z = a .z in
+    let listed = c .before .before .before .before .before .listed in
+    let h : List ℕ = bytes32 (a .version) ++ (z .pointer ∷ z .na ∷ z .nu ∷ z .nf ∷ []) in
+    list-stored h (listOf (listed .result)) _ 512 (c .before .copy .ensures .1)
+    ∙ ap (λ (l : List ℕ). padTo 512 (h ++ l)) (kept-list (listed .result) (listedIn z) (listed .ensures))
 
 pub zone-data-spec : {M : Type 1} → statement M
 zone-data-spec =
