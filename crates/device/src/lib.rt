@@ -1,0 +1,106 @@
+// The ten commands. A device goes in and comes back, with the array, the map and the hold lent beside it.
+// Nothing is required of a caller: whatever is handed in, a command answers as document 01 says.
+ghost use mathlib.Core.Path.{_≡_};
+ghost use mathlib.Core.Bool.{cond};
+ghost use lib.Dec.{eqb};
+ghost use Rattle.model.specs.Answers.{number};
+ghost use Rattle.model.specs.Commands.{Outcome, exec, abort, read};
+ghost use Rattle.model.specs.Transactions.{readPart};
+ghost use Rattle.device.specs.Replies.{replied};
+use model::Answer;
+use model::Map;
+use model::Place;
+use model::Refusal;
+use model::State;
+
+/// The handle with the commands.
+pub struct Device {
+    pub state: State,
+}
+
+/// What a command gives back.
+pub struct Reply {
+    pub answer: Answer,
+    pub device: Device,
+}
+
+/// The reply with a state.
+fn answered(answer: Answer, s: State) -> Reply
+    ensures { λ r. ⌜ r ≡ replied answer s ⌝ }
+{
+    Reply {
+        answer,
+        device: Device { state: s },
+    }
+}
+
+/// The reply that refuses with number 1 or 17.
+fn refused(n: u8, s: State) -> Reply
+    ensures { λ r. ⌜ (number (r .answer) ≡ cond (eqb n 17) 17 1) × (r .device .state ≡ s) ⌝ }
+{
+    if n == 17 {
+        return answered(Answer::Refused(Refusal::Busy), s);
+    }
+    answered(Answer::Refused(Refusal::BadFrame), s)
+}
+
+impl Device {
+    /// Forgets an open change: 8.
+    pub fn abort(self, array: &[u8], map: &[u16], hold: &[u8], id: u32) -> Reply
+        ensures { λ r. ⌜ _≡_ {A = Outcome} (record { answer = number (r .answer); world = record { array = now (array .entry); map = now (map .entry); hold = now (hold .entry); state = r .device .state } }) (exec (abort id) (record { array = now (array .entry); map = now (map .entry); hold = now (hold .entry); state = self .state })) ⌝ }
+    {
+        let s = self.state;
+        let n = frame::gate(false, s, array, map, hold);
+        if n != 0 {
+            return refused(n, s);
+        }
+        let ps = s.places;
+        let i = places::place_of(ps, id);
+        if i >= 8 {
+            return answered(Answer::Refused(Refusal::NotBegun), s);
+        }
+        let free = Place::free();
+        let t = places::with_place(s, i, free);
+        answered(Answer::Done, t)
+    }
+
+    /// What reading a logical page answers: 5, 14.
+    pub fn read(self, array: &[u8], map: &[u16], hold: &[u8], lpn: u16) -> Answer
+        ensures { λ r. ⌜ _≡_ {A = Outcome} (record { answer = number r; world = record { array = now (array .entry); map = now (map .entry); hold = now (hold .entry); state = self .state } }) (exec (read lpn) (record { array = now (array .entry); map = now (map .entry); hold = now (hold .entry); state = self .state })) ⌝ }
+    {
+        let s = self.state;
+        if !frame::frame_ok(s, array, map, hold) {
+            return Answer::Refused(Refusal::BadFrame);
+        }
+        if lpn >= s.geometry.logical {
+            return Answer::Refused(Refusal::BadLogicalPage);
+        }
+        let at = lpn as usize;
+        if map[at] == Map::UNMAPPED {
+            return Answer::Refused(Refusal::NeverWritten);
+        }
+        Answer::Done
+    }
+
+    /// The part of the array that a read hands back: the 512 bytes of the mapped page, empty where refused.
+    pub fn read_part<'a>(self, array: &'a [u8], map: &[u16], hold: &[u8], lpn: u16) -> &'a [u8]
+        ensures { λ r. ⌜ now r ≡ readPart lpn (record { array = now (array .entry); map = now (map .entry); hold = now (hold .entry); state = self .state }) ⌝ }
+    {
+        let zero: usize = 0;
+        let s = self.state;
+        if !frame::frame_ok(s, array, map, hold) {
+            return &array[zero..zero];
+        }
+        if lpn >= s.geometry.logical {
+            return &array[zero..zero];
+        }
+        let at = lpn as usize;
+        let k = map[at];
+        if k == Map::UNMAPPED {
+            return &array[zero..zero];
+        }
+        let page = flash::page_of(array, k as usize);
+        let end: usize = 512;
+        &page[zero..end]
+    }
+}
