@@ -1,14 +1,10 @@
 -- Work under way: until its last stride every other call leaves the world as it is, but a recover and an accepted format; no further stride is
 -- refused; each stride of a reclaim picks the same block.
 use mathlib.Core.Path.{_≡_, refl, sym, ap, _∙_, subst}
-use mathlib.Core.Logic.{_⊎_, inl, inr}
-use mathlib.Core.Bool.{Bool, true, false, false≢true, not, cond, _||_}
-use Prim.Native.Nat.{ℕ, _+_, _-_, _*_, _≤_, _<_}
+use mathlib.Core.Bool.{Bool, true, false, false≢true, not, cond}
+use Prim.Native.Nat.{ℕ, _*_}
 use native.Mathlib.Omega.{arith}
-use mathlib.Core.List.{List}
-use lib.ListN.{length}
 use lib.Dec.{eqb, ltb}
-use Rattle.model.specs.Page.{pageBytes, blankAt}
 use Rattle.model.specs.Geometry.{mapPages}
 use Rattle.model.specs.Checkpoint.{Found, nothing, at, loadOk}
 use Rattle.model.specs.Answers.{refused}
@@ -16,24 +12,25 @@ use Rattle.model.specs.World.{World, Plan, refuse, applyOp}
 use Rattle.model.specs.Frame.{lentOk, frameOk, isIdle, gate}
 use Rattle.model.specs.Recovery.{pagesGood}
 use Rattle.model.specs.Recover.{entriesAt, zonesAt, scannedAt, planRecover, recoverFrom, recoverPlan, recoveredState}
-use Rattle.model.specs.Transactions.{unless, dataBytes, withPlace, withVersion, planBegin, planWrite, planLone, planCommit, planAbort, writePlan, lonePlan, markPlan, forgetPlan}
+use Rattle.model.specs.Transactions.{unless, withPlace, withVersion, planBegin, planWrite, planLone, planCommit, planAbort, writePlan, lonePlan, markPlan, forgetPlan}
 use Rattle.model.specs.Strides.{isCheckpoint, isReclaim, withWork, withZones, withNumber, mappedIn, picked, lowestFrom, mapStride, zoneStride, pageStride, otherStride, copyStride, freeStride, reclaimStride, planCheckpoint, planReclaim}
-use Rattle.model.specs.Commands.{Call, format, recover, begin, write, lone, commit, abort, read, checkpoint, reclaim, plan, carried, exec, Outcome}
+use Rattle.model.specs.Commands.{Call, format, recover, begin, write, lone, commit, abort, read, checkpoint, reclaim, plan, carried, exec}
 use Rattle.model.specs.Book.{Book}
-use Rattle.model.specs.Sequence.{fits, Allowed}
+use Rattle.model.specs.Sequence.{Allowed}
 use Rattle.model.specs.declared.Geometry.{Geometry}
 use Rattle.model.specs.declared.Work.{Work}
 use Rattle.model.specs.declared.Work.the-variants.{Idle, Format, Checkpoint, Reclaim}
-use Rattle.arrays.specs.Tests.{clash, decide}
-use Rattle.front.specs.CheckpointStrides.{gate-own, Stride, refuses, erases, maps, zones, checkpoint-stride, checkpoint-goes-on}
-use Rattle.scanlog.specs.Reclaim.{Going, GoingOn, going-copy, stride-goes}
+use Rattle.arrays.specs.Tests.{clash}
+use Rattle.arrays.specs.Frame.{gate-own}
+use Rattle.front.specs.CheckpointStrides.{Stride, refuses, erases, maps, zones, checkpoint-stride, checkpoint-goes-on}
+use Rattle.scanlog.specs.Reclaim.{GoingOn, stride-goes}
 use Rattle.sequence.specs.Refused.{refused-same, read-same}
 use Rattle.sequence.specs.Live.{Live, live-frame}
 use Rattle.sequence.specs.View.{View, no, yes, view-test, view-cond, view-map}
-use Rattle.sequence.specs.Begin.{Begins, begin-view}
-use Rattle.sequence.specs.Abort.{Aborts, abort-view}
-use Rattle.sequence.specs.Lone.{Lones, lone-view}
-use Rattle.sequence.specs.Write.{WritesTo, write-view}
+use Rattle.sequence.specs.Begin.{begin-view}
+use Rattle.sequence.specs.Abort.{abort-view}
+use Rattle.sequence.specs.Lone.{lone-view}
+use Rattle.sequence.specs.Write.{write-view}
 use Rattle.sequence.specs.Commit.{Commits, forgets, marks, commit-view}
 use Rattle.sequence.specs.Reclaiming.{Reclaims, copies, frees, reclaim-view, copy-going}
 
