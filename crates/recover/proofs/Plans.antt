@@ -45,40 +45,44 @@ module _ (g : Geometry) (xs map bs entries : List ℕ) (h : Scannable g xs map b
   link-start n e = linked-start xs (g .pages) bs n (replicate 8064 0) blocks-in e (length-replicate {A = ℕ} 8064 0)
 
 -- entries that were copied into the map, over a scan that refusal 4 passes
-pub redo-ready : (logical : ℕ) (xs : List ℕ) (p : ℕ) (bs head next map entries m : List ℕ) → Linked 0 xs p bs head next → pagesGood logical (scanIn xs p bs) ≡ true
+pub redo-ready : (logical : ℕ) (xs : List ℕ) (p : ℕ) (bs head next map entries m : List ℕ) → Linked 0 xs p bs head next
+    → (good : Bool) → good ≡ pagesGood logical (scanIn xs p bs) → good ≡ true
     → length map ≡ logical → logical ≤ length entries → m ≡ take (length map) entries → Ready m xs p bs head next
-redo-ready logical xs p bs head next map entries m l ok h k e =
+redo-ready logical xs p bs head next map entries m l good eg ok h k e =
     let n : length m ≡ logical = ap length e ∙ length-take-le (length map) entries (omega arith) ∙ h in
-    record { linked = l; good = rw n ok }
+    record { linked = l; good = rw n (sym eg ∙ ok) }
 
 -- what is made of a scan that refusal 4 does not pass, and of one that it passes
 module _ (logical : ℕ) (es : List Entry) (floor : ℕ) (entries map : List ℕ) where
-  pub scan-refused : pagesGood logical es ≡ false → scannedOf logical es floor entries map ≡ record { good = false; top = 0; map = map }
+  pub scan-refused : (good : Bool) → good ≡ pagesGood logical es → good ≡ false → scannedOf logical es floor (take logical entries) map ≡ record { good = false; top = 0; map = map }
   unfolding scannedOf
-  scan-refused e = rw e
+  scan-refused good eg e = rw (← eg, e)
 
-  pub scan-passed : (t : ℕ) (m : List ℕ) → pagesGood logical es ≡ true → t ≡ top es → m ≡ redone floor es entries
-      → scannedOf logical es floor entries map ≡ record { good = true; top = t; map = m }
+  -- m is the map with the entries copied into it, n with what is applied entered too
+  pub scan-passed : (good : Bool) → good ≡ pagesGood logical es → good ≡ true → (t : ℕ) → t ≡ top es
+      → length map ≡ logical → (m : List ℕ) → m ≡ take (length map) entries → (n : List ℕ) → n ≡ redone floor es m
+      → scannedOf logical es floor (take logical entries) map ≡ record { good = true; top = t; map = n }
   unfolding scannedOf
-  scan-passed t m e et em = rw (e, et, em)
+  scan-passed good eg e t et h m em n en = rw (← eg, e, et, en, em, h)
 
-  -- and back
-  module _ (good : Bool) (t : ℕ) (m : List ℕ) (h : scannedOf logical es floor entries map ≡ record { good = good; top = t; map = m }) where
-    pub refused-back : good ≡ false → (pagesGood logical es ≡ false) × (m ≡ map)
-    unfolding scannedOf
-    refused-back e = go (decide (pagesGood logical es))
-      where
-        go : (pagesGood logical es ≡ true) ⊎ (pagesGood logical es ≡ false) → (pagesGood logical es ≡ false) × (m ≡ map)
-        go (inl p) = let q = rw p at h in clash (ap (λ (r : Scan). r .good) (sym q)) e
-        go (inr p) = let q = rw p at h in (p, ap (λ (r : Scan). r .map) (sym q))
+-- and back
+module _ (logical : ℕ) (es : List Entry) (floor : ℕ) (entries map : List ℕ) (good : Bool) (t : ℕ) (m : List ℕ)
+    (h : scannedOf logical es floor entries map ≡ record { good = good; top = t; map = m }) where
+  pub refused-back : good ≡ false → (pagesGood logical es ≡ false) × (m ≡ map)
+  unfolding scannedOf
+  refused-back e = go (decide (pagesGood logical es))
+    where
+      go : (pagesGood logical es ≡ true) ⊎ (pagesGood logical es ≡ false) → (pagesGood logical es ≡ false) × (m ≡ map)
+      go (inl p) = let q = rw p at h in clash (ap (λ (r : Scan). r .good) (sym q)) e
+      go (inr p) = let q = rw p at h in (p, ap (λ (r : Scan). r .map) (sym q))
 
-    pub passed-back : good ≡ true → (pagesGood logical es ≡ true) × ((t ≡ top es) × (m ≡ redone floor es entries))
-    unfolding scannedOf
-    passed-back e = go (decide (pagesGood logical es))
-      where
-        go : (pagesGood logical es ≡ true) ⊎ (pagesGood logical es ≡ false) → (pagesGood logical es ≡ true) × ((t ≡ top es) × (m ≡ redone floor es entries))
-        go (inl p) = let q = rw p at h in (p, (ap (λ (r : Scan). r .top) (sym q), ap (λ (r : Scan). r .map) (sym q)))
-        go (inr p) = let q = rw p at h in clash e (ap (λ (r : Scan). r .good) (sym q))
+  pub passed-back : good ≡ true → (pagesGood logical es ≡ true) × ((t ≡ top es) × (m ≡ redone floor es entries))
+  unfolding scannedOf
+  passed-back e = go (decide (pagesGood logical es))
+    where
+      go : (pagesGood logical es ≡ true) ⊎ (pagesGood logical es ≡ false) → (pagesGood logical es ≡ true) × ((t ≡ top es) × (m ≡ redone floor es entries))
+      go (inl p) = let q = rw p at h in (p, (ap (λ (r : Scan). r .top) (sym q), ap (λ (r : Scan). r .map) (sym q)))
+      go (inr p) = let q = rw p at h in clash e (ap (λ (r : Scan). r .good) (sym q))
 
 -- ---- the plan from the checkpoint on page k on
 module _ (g : Geometry) (s : State) (xs map : List ℕ) (k : ℕ) where

@@ -1,11 +1,7 @@
 -- `recover::scan_blocks` meets its contract: the pages are linked, refusal 4 passes them or not, and what is committed is entered. Assumes nothing.
-use mathlib.Core.Path.{ap, sym, _∙_}
-use Prim.Native.Nat.{ℕ}
-use lib.ListN.{take}
 use borrow.Author.Needs.{needs}
 use borrow.Author.Tests.{not-true, not-false}
 use Rattle.model.specs.Zones.{scanIn}
-use Rattle.model.specs.Recovery.{redone}
 use Rattle.arrays.specs.Ranges.{geometry-in}
 use Rattle.scan.proofs.Chains.{linked-classed}
 use Rattle.recover.proofs.Plans.{link-start, redo-ready, scan-refused, scan-passed}
@@ -44,8 +40,8 @@ pages-good-requires c κs = search needs
 returns : tie.Need-returns
 returns c =
     let a = c .before .before .before .before .before .before .before .before .before .before .before .before .before .before .before .args in
-    scan-refused (a .g .logical) (scanIn (a .array .now) (a .g .pages) (a .bs .now)) (a .floor) (take (a .g .logical) (a .entries .now)) (a .map .now)
-    (sym (c .before .pages-good .ensures) ∙ not-true _ (c .if1 .taken))
+    scan-refused (a .g .logical) (scanIn (a .array .now) (a .g .pages) (a .bs .now)) (a .floor) (a .entries .now) (a .map .now)
+    (c .before .pages-good .result) (c .before .pages-good .ensures) (not-true _ (c .if1 .taken))
 
 slice-aggregate-top-version : tie.Need-slice-aggregate-top-version
 slice-aggregate-top-version c = search needs
@@ -67,7 +63,7 @@ redo-requires c κs =
     let a = c .before .before .before .before .before .before .before .before .before .before .before .before .before .before .before .before .before .before .before .before .before .before .before .before .args in
     let h = c .before .before .before .before .before .before .before .before .before .before .before .before .before .before .before .before .before .before .before .before .before .before .before .before .pre in (
       redo-ready (a .g .logical) (a .array .now) (a .g .pages) (a .bs .now) _ _ (a .map .now) (a .entries .now) _ (c .before .before .before .before .before .before .before .before .before .before .before .before .before .before .before .link .ensures)
-          (sym (c .before .before .before .before .before .before .before .before .before .before .pages-good .ensures) ∙ not-false _ (c .before .before .before .before .before .before .before .before .before .if1 .left)) (h .mapped) (h .enough) (c .before .before .before .before .before .fill .ensures),
+          (c .before .before .before .before .before .before .before .before .before .before .pages-good .result) (c .before .before .before .before .before .before .before .before .before .before .pages-good .ensures) (not-false _ (c .before .before .before .before .before .before .before .before .before .if1 .left)) (h .mapped) (h .enough) (c .before .before .before .before .before .fill .ensures),
       c .before .before .before .before .before .before .before .top-version .ensures,
     )
 
@@ -77,9 +73,9 @@ same-length c = search needs
 returns-2 : tie.Need-returns-2
 returns-2 c =
     let a = c .before .before .before .before .before .before .before .before .before .before .before .before .before .before .before .before .before .before .before .before .before .before .before .before .before .before .before .args in
-    let es = scanIn (a .array .now) (a .g .pages) (a .bs .now) in
-    scan-passed (a .g .logical) es (a .floor) (take (a .g .logical) (a .entries .now)) (a .map .now) _ _ (sym (c .before .before .before .before .before .before .before .before .before .before .before .before .before .pages-good .ensures) ∙ not-false _ (c .before .before .before .before .before .before .before .before .before .before .before .before .if1 .left))
-    (c .before .before .before .before .before .before .before .before .before .before .top-version .ensures) (c .before .before .redo .ensures ∙ ap (redone (a .floor) es) (c .before .before .before .before .before .before .before .before .fill .ensures ∙ ap (λ (n : ℕ). take n (a .entries .now)) (c .before .before .before .before .before .before .before .before .before .before .before .before .before .before .before .before .before .before .before .before .before .before .before .before .before .before .before .pre .mapped)))
+    scan-passed (a .g .logical) (scanIn (a .array .now) (a .g .pages) (a .bs .now)) (a .floor) (a .entries .now) (a .map .now)
+    (c .before .before .before .before .before .before .before .before .before .before .before .before .before .pages-good .result) (c .before .before .before .before .before .before .before .before .before .before .before .before .before .pages-good .ensures) (not-false _ (c .before .before .before .before .before .before .before .before .before .before .before .before .if1 .left)) (c .before .before .before .before .before .before .before .before .before .before .top-version .result) (c .before .before .before .before .before .before .before .before .before .before .top-version .ensures)
+    (c .before .before .before .before .before .before .before .before .before .before .before .before .before .before .before .before .before .before .before .before .before .before .before .before .before .before .before .pre .mapped) _ (c .before .before .before .before .before .before .before .before .fill .ensures) _ (c .before .before .redo .ensures)
 
 pub scan-blocks-spec : {M : Type 1} → statement M
 scan-blocks-spec =
