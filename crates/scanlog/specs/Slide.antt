@@ -58,7 +58,7 @@ module _ (g : Geometry) (xs : List ℕ) (ps : List Place) (z : Zones) where
   took = took-refill g 3 start
 
   -- the free blocks that become available
-  pub fresh : List ℕ
+  fresh : List ℕ
   fresh = took .taken
 
   slide-available : availableOf (slide g xs ps z) ≡ stay ++ fresh

@@ -44,6 +44,7 @@ pub record Appends (w : World) (b : Book) (p : Plan) : Type 0 where
       → Stored (w .state .geometry) (cutOp (w .state .geometry .pages) (program (nextPage w) new) lets (w .array)) (b .pages)
 
 module _ (w : World) (b : Book) (h : Live w b) (clean : 0 < cleanPages w) (d : List ℕ) (s : Spare) (long : length d ≡ 512) (small : Bytes d) (fit : SpareFits s) where
+  -- geometry, array, the next page, and what is done to it
   abbrev g : Geometry
   g = w .state .geometry
 

@@ -1,4 +1,4 @@
--- Commands that touch a place alone: begin, abort and a commit with nothing written keep the world live.
+-- A begin keeps the world live: the lowest free place is taken, and the book has an open change; and what another place leaves of a live world.
 use mathlib.Core.Path.{_≡_, refl, sym, ap, _∙_}
 use mathlib.Core.Logic.{inl, inr, _≢_}
 use mathlib.Core.Bool.{Bool, true, false, _||_}
@@ -19,22 +19,14 @@ use Rattle.model.specs.Commands.{begin, plan, carried}
 use Rattle.model.specs.Book.{Book, entering, changing, writesOf}
 use Rattle.model.specs.Sequence.{fits}
 use Rattle.model.specs.declared.Place.{Place}
-use Rattle.model.specs.declared.Work.{Work}
-use Rattle.model.specs.declared.Work.the-variants.{Idle, Format, Checkpoint, Reclaim}
 use Rattle.arrays.specs.Tests.{Is, eqb-cases, clash, or-false-left, or-false-right}
-use Rattle.front.specs.Kept.{calm, kept-away}
+use Rattle.front.specs.Kept.{kept-away}
 use Rattle.scanlog.specs.Open.{Opens, opens-set, open-begun}
 use Rattle.sequence.specs.Places.{PlacesGood, placeAt, places-set, begun-ok, inactive, free-found}
 use Rattle.sequence.specs.OpenBook.{isOpen, opened, begin-own, begin-other, begin-open}
 use Rattle.sequence.specs.Writes.{Writes, writes-begun}
 use Rattle.sequence.specs.Live.{Changing, Live, scanned}
-use Rattle.sequence.specs.View.{View, yes, view-test, view-gate, idle-only, Keeps, done-live, view-keeps}
-
-pub idle-calm : (k : Work) → isIdle k ≡ true → calm k ≡ true
-idle-calm Idle h = refl
-idle-calm (Format k) h = h
-idle-calm (Checkpoint k) h = h
-idle-calm Reclaim h = refl
+use Rattle.sequence.specs.View.{View, yes, view-test, view-gate, idle-only, idle-calm, Keeps, done-live, view-keeps}
 
 -- ---- a world with another place i
 abbrev pub placed : World → ℕ → Place → World
@@ -77,6 +69,7 @@ begin-view id w =
 
 module _ (w : World) (b : Book) (id : ℕ) (h : Live w b) (small : id < 4294967296) (idle : isIdle (w .state .work) ≡ true) (name : badId id ≡ false) (fresh : liveId id w ≡ false)
     (room : leb 8 (find (hasId 0) (w .state .places)) ≡ false) where
+  -- the places, and the lowest free one
   abbrev ps : List Place
   ps = w .state .places
 
@@ -98,6 +91,7 @@ module _ (w : World) (b : Book) (id : ℕ) (h : Live w b) (small : id < 42949672
   unfolding liveId
   off = or-false-right (active id ps) _ fresh
 
+  -- the book after it
   abbrev after : Book
   after = record { pages = b .pages; changes = b .changes ++ (opened id ∷ []) }
 

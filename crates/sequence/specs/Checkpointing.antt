@@ -44,6 +44,7 @@ use Rattle.sequence.specs.View.{Keeps, done-live, more-live, refused-liv
 use Rattle.sequence.specs.Spared.{Spared, spared-tidy, spared-scan, spared-contents, spared-changing, spared-sound, front-spares}
 
 module _ (w : World) (b : Book) (h : Live w b) where
+  -- geometry and array, and the zones that the last stride makes
   abbrev g : Geometry
   g = w .state .geometry
 
@@ -59,6 +60,7 @@ module _ (w : World) (b : Book) (h : Live w b) where
   live-holds : Holds w
   live-holds = record { version = omega (arith, h .sound .last); moved = slid-tidy .ok }
 
+  -- the stride that the call does
   abbrev does : Stride w (planCheckpoint w)
   does = checkpoint-stride w (h .saved) (h .kept)
 
@@ -135,6 +137,7 @@ module _ (w : World) (b : Book) (h : Live w b) where
     ok : operation.Sound (g .pages) (l .op) xs
     ok = stride-sound w live-holds l s
 
+    -- the array after it
     abbrev ys : List ℕ
     ys = applyOp (g .pages) (l .op) xs
 
@@ -190,6 +193,7 @@ module _ (w : World) (b : Book) (h : Live w b) where
 
   -- ---- a stride cut
   module _ (l : Plan) (s : Stride w l) (lets : List ℕ) where
+    -- the array that the cut leaves
     abbrev zs : List ℕ
     zs = cutOp (g .pages) (l .op) lets xs
 

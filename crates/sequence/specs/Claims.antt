@@ -20,7 +20,7 @@ use Rattle.scanlog.specs.Sublist.{Sublist}
 use Rattle.sequence.specs.Live.{live-reads, scanned}
 use Rattle.sequence.specs.Start.{formatted-live, formatted-idle, some-formatted}
 use Rattle.sequence.specs.ScanOrder.{added, ScannedLast, InOrder, call-orders}
-use Rattle.sequence.specs.UnderWay.{another, GoesOn, busy-same, checkpoint-not-refused, reclaim-not-refused, goes-call, goes-recovered, copy-picks-same, checkpoint-more, reclaim-more}
+use Rattle.sequence.specs.UnderWay.{another, GoesOn, More, busy-same, checkpoint-not-refused, reclaim-not-refused, goes-call, goes-recovered, copy-picks-same, checkpoint-more, reclaim-more}
 use Rattle.sequence.specs.Theorem.{LiveAt, Holds, step-holds, run-holds}
 
 -- ---- the worlds of a sequence
@@ -83,11 +83,11 @@ module _ (g : Geometry) (es : List Event) (w : World) (s : InSequence g es w) wh
   pub reclaim-goes-on : isReclaim (w .state .work) ≡ true → refused (exec reclaim w .answer) ≡ false
   reclaim-goes-on = reclaim-not-refused w (story (blank g) es) (sequence-live .world) goes
 
-  -- a stride that answers more leaves its work under way
-  pub checkpoint-under-way : exec checkpoint w .answer ≡ 255 → isCheckpoint (exec checkpoint w .world .state .work) ≡ true
+  -- a stride that answers more leaves its work under way; and "zones change in the last"
+  pub checkpoint-under-way : exec checkpoint w .answer ≡ 255 → More isCheckpoint w (exec checkpoint w .world)
   checkpoint-under-way = checkpoint-more w (story (blank g) es) (sequence-live .world)
 
-  pub reclaim-under-way : exec reclaim w .answer ≡ 255 → isReclaim (exec reclaim w .world .state .work) ≡ true
+  pub reclaim-under-way : exec reclaim w .answer ≡ 255 → More isReclaim w (exec reclaim w .world)
   reclaim-under-way = reclaim-more w (story (blank g) es) (sequence-live .world)
 
   -- and no other call between two strides alters anything, but a recover
@@ -113,6 +113,7 @@ ReadRight g b (called reclaim n) = Unit {0}
 ReadRight g b (cutIn c programs due turned) = Unit {0}
 ReadRight g b cutBetween = Unit {0}
 
+-- every read of the list
 abbrev pub ReadsRight : Geometry → Book → List Event → Type 0
 ReadsRight g b [] = Unit {0}
 ReadsRight g b (e ∷ es) = ReadRight g b e × ReadsRight g (tell b e) es

@@ -35,8 +35,7 @@ use Rattle.sequence.specs.Contents.{Contents}
 use Rattle.sequence.specs.Places.{placeAt, places-set, free-ok, Found, place-found}
 use Rattle.sequence.specs.Writes.{Laid, Writes, Enters, Entered, WholeSame, writeAt, laid-keep, enters-all, held-long}
 use Rattle.sequence.specs.Live.{Live, live-range, live-logged, scanned}
-use Rattle.sequence.specs.View.{View, yes, view-test, view-gate, view-cond, idle-only, Keeps, done-live, view-keeps}
-use Rattle.sequence.specs.Begin.{idle-calm}
+use Rattle.sequence.specs.View.{View, yes, view-test, view-gate, view-cond, idle-only, Keeps, done-live, view-keeps, idle-calm}
 use Rattle.sequence.specs.Abort.{changing-close, found-apart, forget-live}
 use Rattle.sequence.specs.Lone.{changing-grow, room-clean}
 use Rattle.sequence.specs.PlaceIn.{PlaceIn, place-in, first-passes, good-name}
@@ -65,6 +64,7 @@ commit-view id w =
 -- ---- the mark
 module _ (w : World) (b : Book) (h : Live w b) (id i : ℕ) (idle : isIdle (w .state .work) ≡ true) (f : Found (w .state .places) id i)
     (many : placeAt (w .state .places) i .count ≢ 0) (more : spent (w .state .version) 1 ≡ false) (short : zoneShort w ≡ false) where
+  -- geometry, places, the place of the change, its writes in the book, and the version of the mark
   abbrev g : Geometry
   g = w .state .geometry
 
@@ -95,6 +95,7 @@ module _ (w : World) (b : Book) (h : Live w b) (id i : ℕ) (idle : isIdle (w .s
   version-small : v ≤ 4294967294
   version-small = omega (arith, ltb-false 4294967294 v more)
 
+  -- the pages programmed before
   abbrev n : ℕ
   n = p .count - 1
 
@@ -111,6 +112,7 @@ module _ (w : World) (b : Book) (h : Live w b) (id i : ℕ) (idle : isIdle (w .s
       pick (inl e) = good-name (p .id) e
       pick (inr e) = absurd (some (e .0))
 
+  -- the spare area of the mark
   abbrev markSpare : Spare
   markSpare = record { lpn = heldPage p; cnt = p .count; id = p .id; ver = v; kind = 0; reserved = 0 }
 
@@ -124,6 +126,7 @@ module _ (w : World) (b : Book) (h : Live w b) (id i : ℕ) (idle : isIdle (w .s
     reserved = omega arith;
   }
 
+  -- its data
   abbrev markData : List ℕ
   markData = heldAt i (w .hold)
 
@@ -136,6 +139,7 @@ module _ (w : World) (b : Book) (h : Live w b) (id i : ℕ) (idle : isIdle (w .s
   clean : 0 < cleanPages w
   clean = room-clean w b h short
 
+  -- its page, the array after it, the pages of the change, and the map after it
   abbrev k : ℕ
   k = nextPage w
 
@@ -236,6 +240,7 @@ module _ (w : World) (b : Book) (h : Live w b) (id i : ℕ) (idle : isIdle (w .s
   unfolding entryOf
   mark-id = refl
 
+  -- the book after it
   abbrev told : Book
   told = record { pages = enterAll (b .pages) ws; changes = close id (b .changes) }
 

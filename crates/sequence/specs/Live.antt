@@ -51,6 +51,7 @@ pub record Changing (xs map hold : List ℕ) (ps : List Place) (b : Book) : Type
 abbrev pub scanned : World → List Entry
 scanned w = scanOf (w .array) (w .state .geometry .pages) (w .state .zones)
 
+-- the invariant of a live world with the book
 pub record Live (w : World) (b : Book) : Type 0 where
   pub saved : Saved
   pub sound : Sound (w .state .geometry) (w .array) saved (w .map) (w .state .version) (b .pages)

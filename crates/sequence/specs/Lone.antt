@@ -1,4 +1,4 @@
--- A lone write keeps the world live, and the book has its page; cut, it is there whole or not at all.
+-- A lone write keeps the world live, and the book has its page.
 use mathlib.Core.Path.{_≡_, refl, sym, _∙_, subst}
 use mathlib.Core.Logic.{_≢_}
 use mathlib.Core.Bool.{true, false, not}
@@ -35,8 +35,7 @@ use Rattle.sequence.specs.Contents.{contents-set}
 use Rattle.sequence.specs.Places.{placeAt}
 use Rattle.sequence.specs.Writes.{Laid, WholeSame, writes-keep}
 use Rattle.sequence.specs.Live.{Changing, Live, live-range, live-logged, scanned}
-use Rattle.sequence.specs.View.{View, yes, view-test, view-gate, idle-only, Keeps, done-live, view-keeps}
-use Rattle.sequence.specs.Begin.{idle-calm}
+use Rattle.sequence.specs.View.{View, yes, view-test, view-gate, idle-only, Keeps, done-live, view-keeps, idle-calm}
 use Rattle.sequence.specs.Append.{Appends, appends, appended, next-is-data, next-mapped, next-blank, next-free, append-whole, append-data, append-keeps, append-tidy, append-scan, append-front, append-sound, append-contents}
 
 -- ---- the open changes while the array grows
@@ -66,6 +65,7 @@ loneSpare lpn v = record { lpn = lpn; cnt = 1; id = 0; ver = v; kind = 0; reserv
 
 module _ (w : World) (b : Book) (h : Live w b) (clean : 0 < cleanPages w) (lpn : ℕ) (d : List ℕ) (long : length d ≡ 512) (small : Bytes d)
     (low : lpn < w .state .geometry .logical) (more : spent (w .state .version) 1 ≡ false) where
+  -- its numbers fit their fields
   abbrev pub loneFits : SpareFits (loneSpare lpn (w .state .version + 1))
   loneFits =
       let r = live-range w b h in

@@ -22,6 +22,7 @@ use Rattle.arrays.specs.Tests.{Is, eqb-cases, clash, and-both, or-left, or-righ
 abbrev pub placeAt : List Place → ℕ → Place
 placeAt ps i = getD ps i noPlace
 
+-- each place is in range, and no two that are not free share an identifier
 pub record PlacesGood (g : Geometry) (ps : List Place) : Type 0 where
   pub ok : (i : ℕ) → i < length ps → placeOk g (placeAt ps i) ≡ true
   pub apart : (i j : ℕ) → i < length ps → j < length ps → i ≢ j → placeAt ps i .id ≢ 0 → placeAt ps j .id ≢ placeAt ps i .id

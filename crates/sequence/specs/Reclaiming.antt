@@ -98,6 +98,7 @@ none-in p c (x ∷ map) k o z = go (eqb-cases k x) (inBlock p c x) refl (none-in
 
 -- ---- the picked block
 module _ (w : World) (b : Book) (h : Live w b) (c : ℕ) (on : GoingOn w c) where
+  -- geometry and array
   abbrev g : Geometry
   g = w .state .geometry
 
@@ -118,6 +119,7 @@ module _ (w : World) (b : Book) (h : Live w b) (c : ℕ) (on : GoingOn w c) wher
 
   -- ---- a copy
   module _ (calm′ : calm (w .state .work) ≡ true) (some : 0 < mappedIn (w .map) (g .pages) c) where
+    -- the page that is copied, and the logical page that it is
     abbrev j : ℕ
     j = lowest (w .map) (g .pages) c some
 
@@ -142,6 +144,7 @@ module _ (w : World) (b : Book) (h : Live w b) (c : ℕ) (on : GoingOn w c) wher
     j-whole : wholeAt xs j ≡ true
     j-whole = mapped-whole xs (w .map) (b .pages) (h .sound .contents) j j-mapped (subst (λ (x : ℕ). 0 < occ x (w .map)) leads (entry-in (w .map) lpn low))
 
+    -- its data
     abbrev d : List ℕ
     d = dataAt xs j
 
@@ -160,12 +163,14 @@ module _ (w : World) (b : Book) (h : Live w b) (c : ℕ) (on : GoingOn w c) wher
     more : spent (w .state .version) 1 ≡ false
     more = le-ltb 4294967294 (w .state .version + 1) (omega (arith, on .numbers))
 
+    -- the spare area of the copy
     abbrev s : Spare
     s = loneSpare lpn (w .state .version + 1)
 
     fit : SpareFits s
     fit = loneFits w b h clean lpn d long small logical-low more
 
+    -- its page, and the array after it
     abbrev k : ℕ
     k = nextPage w
 
@@ -223,6 +228,7 @@ module _ (w : World) (b : Book) (h : Live w b) (c : ℕ) (on : GoingOn w c) wher
         let m : 2 * g .pages ≤ c * g .pages = mul-le-mul-right (g .pages) (few .low) in
         o i (inl (omega arith))
 
+    -- the array after it
     abbrev erased : List ℕ
     erased = applyOp (g .pages) (erase c) xs
 

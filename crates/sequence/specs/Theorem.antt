@@ -45,6 +45,7 @@ pub record LiveAt (g : Geometry) (w : World) (b : Book) : Type 0 where
   pub shape : w .state .geometry ≡ g
   pub world : Live w b
 
+-- the invariant of a phase: a live world, or a sound array
 abbrev pub Holds : Geometry → Book → Phase → Type 0
 Holds g b (live w) = LiveAt g w b
 Holds g b (dark xs) = Stored g xs (b .pages)

@@ -1,5 +1,5 @@
--- Work under way: until its last stride every other call leaves the world as it is, but a recover and an accepted format; no further stride is
--- refused; each stride of a reclaim picks the same block.
+-- Work under way: until its last stride the zones stay, every other call leaves the world as it is, but a recover and an accepted format, and no
+-- further stride is refused; each stride of a reclaim picks the same block.
 use mathlib.Core.Path.{_≡_, refl, sym, ap, _∙_, subst}
 use mathlib.Core.Bool.{Bool, true, false, false≢true, not, cond}
 use Prim.Native.Nat.{ℕ, _*_}
@@ -205,25 +205,30 @@ copy-picks-same w b h a = go (planReclaim w) refl (reclaim-view w (h .sound .las
     go p e (no n r) = ap picked (refuse-same reclaim w n e)
     go p e (yes q x) = rw e (does q (rw e at a) x)
 
--- ---- a stride that answers more leaves its work under way
-pub reclaim-more : (w : World) (b : Book) → Live w b → exec reclaim w .answer ≡ 255 → isReclaim (exec reclaim w .world .state .work) ≡ true
+-- ---- a stride that answers more
+-- leaves its work under way, and the zones as they are
+pub record More (own : Work → Bool) (w v : World) : Type 0 where
+  pub work : own (v .state .work) ≡ true
+  pub zones : v .state .zones ≡ w .state .zones
+
+pub reclaim-more : (w : World) (b : Book) → Live w b → exec reclaim w .answer ≡ 255 → More isReclaim w (exec reclaim w .world)
 unfolding exec carried plan
 reclaim-more w b h a = go (planReclaim w) refl (reclaim-view w (h .sound .last))
   where
-    does : (p : Plan) → p .answer ≡ 255 → Reclaims w p → isReclaim (p .state .work) ≡ true
-    does p a (copies c calm on some) = unfold copyStride withWork in refl
+    does : (p : Plan) → p .answer ≡ 255 → Reclaims w p → More isReclaim w (carried p w .world)
+    does p a (copies c calm on some) = unfold carried copyStride withWork withVersion in record { work = refl; zones = refl }
     does p a (frees c calm on zero) = let z : _≡_ {A = ℕ} 0 255 = unfold freeStride in a in absurd (omega arith)
 
-    go : (p : Plan) → planReclaim w ≡ p → View w (Reclaims w) p → isReclaim (planReclaim w .state .work) ≡ true
+    go : (p : Plan) → planReclaim w ≡ p → View w (Reclaims w) p → More isReclaim w (exec reclaim w .world)
     go p e (no n r) = let z : n ≡ 255 = rw e at a in clash (subst (λ (m : ℕ). refused m ≡ true) z r) (unfold refused in refl)
     go p e (yes q x) = rw e (does q (rw e at a) x)
 
-pub checkpoint-more : (w : World) (b : Book) → Live w b → exec checkpoint w .answer ≡ 255 → isCheckpoint (exec checkpoint w .world .state .work) ≡ true
+pub checkpoint-more : (w : World) (b : Book) → Live w b → exec checkpoint w .answer ≡ 255 → More isCheckpoint w (exec checkpoint w .world)
 unfolding exec carried plan
 checkpoint-more w b h a = go (planCheckpoint w) (checkpoint-stride w (h .saved) (h .kept)) a
   where
-    go : (p : Plan) → Stride w p → p .answer ≡ 255 → isCheckpoint (p .state .work) ≡ true
+    go : (p : Plan) → Stride w p → p .answer ≡ 255 → More isCheckpoint w (carried p w .world)
     go p (refuses n r) a = clash (subst (λ (m : ℕ). refused m ≡ true) a r) (unfold refused in refl)
-    go p (erases s i) a = unfold otherStride withWork in refl
-    go p (maps q i s r m) a = unfold mapStride withWork in refl
+    go p (erases s i) a = unfold carried otherStride withWork in record { work = refl; zones = refl }
+    go p (maps q i s r m) a = unfold carried mapStride withWork in record { work = refl; zones = refl }
     go p (zones q s r) a = let z : _≡_ {A = ℕ} 0 255 = unfold zoneStride in a in absurd (omega arith)

@@ -38,8 +38,7 @@ use Rattle.sequence.specs.OpenBook.{isOpen, add-own, add-other, add-open
 use Rattle.sequence.specs.Writes.{Writes, WholeSame, writes-keep, writes-more, hold-own, hold-other, hold-long, held-long}
 use Rattle.sequence.specs.Sound.{Sound}
 use Rattle.sequence.specs.Live.{Live, live-range, live-logged, scanned}
-use Rattle.sequence.specs.View.{View, yes, view-test, view-gate, idle-only, Keeps, done-live, view-keeps}
-use Rattle.sequence.specs.Begin.{idle-calm}
+use Rattle.sequence.specs.View.{View, yes, view-test, view-gate, idle-only, Keeps, done-live, view-keeps, idle-calm}
 use Rattle.sequence.specs.Abort.{found-apart}
 use Rattle.sequence.specs.Lone.{room-clean}
 use Rattle.sequence.specs.Append.{Appends, appends, appended, next-is-data, next-blank, next-free, append-whole, append-data, append-spare, append-keeps, append-tidy, append-scan, append-front, append-sound, append-contents}
@@ -78,6 +77,7 @@ write-view id lpn d w =
 -- ---- the world with the page held, and perhaps one programmed
 module _ (w : World) (b : Book) (h : Live w b) (id lpn : ℕ) (d : List ℕ) (idle : isIdle (w .state .work) ≡ true) (long : length d ≡ 512) (small : Bytes d)
     (low : lpn < w .state .geometry .logical) (i : ℕ) (f : Found (w .state .places) id i) (room : placeAt (w .state .places) i .count < 64) where
+  -- geometry, places, the place of the change, and the write
   abbrev g : Geometry
   g = w .state .geometry
 
@@ -111,6 +111,7 @@ module _ (w : World) (b : Book) (h : Live w b) (id lpn : ℕ) (d : List ℕ) (id
       (scan : scanOf ys (g .pages) (w .state .zones) ≡ es) (front : SameFront (w .array) ys (g .pages)) (same : WholeSame (w .array) ys)
       (mine : Open (written p k lpn) es) (others : (j : ℕ) → j < length ps → j ≢ i → placeAt ps j .id ≢ 0 → ofId (placeAt ps j .id) es ≡ ofId (placeAt ps j .id) (scanned w))
       (page : p .count ≢ 0 → dataPage g k ≡ true) (new : Writes ys (w .map) (holdWith (w .hold) i d) i (written p k lpn) (writesOf id (b .changes) ++ (x ∷ []))) where
+    -- the place, the world and the book after it
     abbrev q : Place
     q = written p k lpn
 
@@ -199,12 +200,14 @@ module _ (w : World) (b : Book) (h : Live w b) (id lpn : ℕ) (d : List ℕ) (id
     held-name : p .id ≢ 4294967295
     held-name = good-name (p .id) named
 
+    -- the spare area of the page held before
     abbrev pageSpare : Spare
     pageSpare = record { lpn = heldPage p; cnt = 0; id = p .id; ver = 0; kind = 0; reserved = 0 }
 
     page-fits : SpareFits pageSpare
     page-fits = record { lpn = omega (arith, held-low, live-range w b h .logical-most); cnt = omega arith; id = own .small; ver = omega arith; kind = omega arith; reserved = omega arith }
 
+    -- its data
     abbrev pageData : List ℕ
     pageData = heldAt i (w .hold)
 
@@ -220,6 +223,7 @@ module _ (w : World) (b : Book) (h : Live w b) (id lpn : ℕ) (d : List ℕ) (id
     clean : 0 < cleanPages w
     clean = room-clean w b h short
 
+    -- its page, the array after it, and what is scanned then
     abbrev k : ℕ
     k = nextPage w
 
