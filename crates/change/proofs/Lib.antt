@@ -1,0 +1,4 @@
+pub mod Entering
+pub mod Framed
+pub mod Next
+pub mod Carrying

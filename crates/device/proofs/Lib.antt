@@ -1,0 +1,3 @@
+pub mod Framed
+pub mod Outcomes
+pub mod Reading

@@ -1,0 +1,231 @@
+// Refusals 1 and 17: whether a state may be, with the buffers lent beside it, and whether another command's work is under way.
+ghost use mathlib.Core.Path.{_≡_};
+ghost use mathlib.Core.Bool.{true, _&&_};
+ghost use Prim.Native.Nat.{ℕ, _+_, _-_, _*_, _≤_, _<_};
+ghost use lib.ListN.{length, take, drop, getD};
+ghost use lib.Dec.{ltb};
+ghost use Rattle.model.specs.Lists.{all};
+ghost use Rattle.model.specs.Geometry.{geometryOk, lengthsOk, dataPage};
+ghost use Rattle.model.specs.Frame.{noPlace, placeOk, alone, placesOk, formatStrideOk, checkpointStrideOk, workOk, frameOk, isIdle, gate};
+ghost use Rattle.frame.specs.Lent.{Sized};
+use model::Geometry;
+use model::Place;
+use model::State;
+use model::Work;
+
+/// Whether the first n logical page numbers are in range.
+fn lpns_ok(lpns: [u16; 64], n: usize, logical: u16) -> bool
+    requires { ⌜ n ≤ 64 ⌝ }
+    ensures { λ r. ⌜ r ≡ all (λ (l : ℕ). ltb l logical) (take n lpns) ⌝ }
+{
+    let mut i: usize = 0;
+    while i < n {
+        if lpns[i] >= logical {
+            return false;
+        }
+        i += 1;
+    }
+    true
+}
+
+/// Whether the first n page numbers are of data blocks.
+fn ppns_ok(g: Geometry, ppns: [u16; 64], n: usize) -> bool
+    requires { ⌜ (geometryOk g ≡ true) × (n ≤ 64) ⌝ }
+    ensures { λ r. ⌜ r ≡ all (dataPage g) (take n ppns) ⌝ }
+{
+    let lo = 2 * g.pages;
+    let hi = g.blocks * g.pages;
+    let mut i: usize = 0;
+    while i < n {
+        if ppns[i] < lo {
+            return false;
+        }
+        if ppns[i] >= hi {
+            return false;
+        }
+        i += 1;
+    }
+    true
+}
+
+/// Whether a place is in range.
+fn place_ok(g: Geometry, p: Place) -> bool
+    requires { ⌜ geometryOk g ≡ true ⌝ }
+    ensures { λ r. ⌜ r ≡ placeOk g p ⌝ }
+{
+    if p.count > 64 {
+        return false;
+    }
+    if p.id == State::NO_NUMBER {
+        return false;
+    }
+    let n = p.count as usize;
+    if n == 0 {
+        return true;
+    }
+    if p.id == 0 {
+        return false;
+    }
+    let lpns = p.lpns;
+    if !lpns_ok(lpns, n, g.logical) {
+        return false;
+    }
+    let ppns = p.ppns;
+    ppns_ok(g, ppns, n - 1)
+}
+
+/// Whether no later place shares the identifier of place i, or it is free.
+fn is_alone(places: [Place; 8], i: usize) -> bool
+    requires { ⌜ i < 8 ⌝ }
+    ensures { λ r. ⌜ r ≡ alone (getD places i noPlace) (drop (i + 1) places) ⌝ }
+{
+    let p = places[i];
+    if p.id == 0 {
+        return true;
+    }
+    let mut j = i + 1;
+    while j < 8 {
+        let q = places[j];
+        if q.id == p.id {
+            return false;
+        }
+        j += 1;
+    }
+    true
+}
+
+/// Whether the places are in range, and no two share an identifier.
+fn places_ok(g: Geometry, places: [Place; 8]) -> bool
+    requires { ⌜ geometryOk g ≡ true ⌝ }
+    ensures { λ r. ⌜ r ≡ placesOk g places ⌝ }
+{
+    let mut i: usize = 0;
+    while i < 8 {
+        let p = places[i];
+        if !place_ok(g, p) {
+            return false;
+        }
+        if !is_alone(places, i) {
+            return false;
+        }
+        i += 1;
+    }
+    true
+}
+
+/// Whether a format's stride number is in range and its next front page erased.
+pub fn format_stride_ok(g: Geometry, array: &[u8], k: u16) -> bool
+    requires { ⌜ Sized g (now array) ⌝ }
+    ensures { λ r. ⌜ r ≡ formatStrideOk g (now (array .entry)) k ⌝ }
+{
+    let n = k as usize;
+    let blocks = g.blocks as usize;
+    if n < 1 {
+        return false;
+    }
+    if n > blocks + ranges::map_pages(g) {
+        return false;
+    }
+    if n < blocks {
+        return true;
+    }
+    flash::is_blank(array, n - blocks)
+}
+
+/// Whether a checkpoint's stride number is in range and its next front page erased.
+fn checkpoint_stride_ok(g: Geometry, array: &[u8], front: u8, first: u8, k: u16) -> bool
+    requires { ⌜ Sized g (now array) × (front < 2) ⌝ }
+    ensures { λ r. ⌜ r ≡ checkpointStrideOk g (now (array .entry)) front first k ⌝ }
+{
+    let m = ranges::map_pages(g);
+    let pages = g.pages as usize;
+    let n = k as usize;
+    let q = first as usize;
+    if n > m {
+        return false;
+    }
+    if q + m >= pages {
+        return false;
+    }
+    if n == 0 {
+        if q != 0 {
+            return false;
+        }
+    }
+    flash::is_blank(array, (front as usize) * pages + (q + n))
+}
+
+/// Whether the work under way, its first page and its next front page are in range.
+fn work_ok(s: State, array: &[u8], work: Work) -> bool
+    requires { ⌜ Sized (s .geometry) (now array) × (s .front < 2) ⌝ }
+    ensures { λ r. ⌜ r ≡ workOk s (now (array .entry)) work ⌝ }
+{
+    let g = s.geometry;
+    let first = s.first;
+    match work {
+        Work::Idle => first == 0,
+        Work::Format(k) => {
+            if first != 0 {
+                return false;
+            }
+            format_stride_ok(g, array, k)
+        }
+        Work::Checkpoint(k) => checkpoint_stride_ok(g, array, s.front, first, k),
+        Work::Reclaim => first == 0,
+    }
+}
+
+/// Whether a state and the buffers lent beside it are in range.
+pub fn frame_ok(s: State, array: &[u8], map: &[u16], hold: &[u8]) -> bool
+    ensures { λ r. ⌜ r ≡ frameOk (record { array = now (array .entry); map = now (map .entry); hold = now (hold .entry); state = s }) ⌝ }
+{
+    let g = s.geometry;
+    if !ranges::lent_ok(g, array, map, hold) {
+        return false;
+    }
+    if !ranges::map_ok(g, map) {
+        return false;
+    }
+    let z = s.zones;
+    if !ranges::zones_ok(g, z) {
+        return false;
+    }
+    let ps = s.places;
+    if !places_ok(g, ps) {
+        return false;
+    }
+    if s.front >= 2 {
+        return false;
+    }
+    let w = s.work;
+    work_ok(s, array, w)
+}
+
+/// Whether no work is under way.
+pub fn is_idle(work: Work) -> bool
+    ensures { λ r. ⌜ r ≡ isIdle work ⌝ }
+{
+    match work {
+        Work::Idle => true,
+        Work::Format(_) => false,
+        Work::Checkpoint(_) => false,
+        Work::Reclaim => false,
+    }
+}
+
+/// The number that refuses on such a world, 1 or 17, or 0; `own`: nothing is under way but the command's own work, or the command is read.
+pub fn gate(own: bool, s: State, array: &[u8], map: &[u16], hold: &[u8]) -> u8
+    ensures { λ r. ⌜ r ≡ gate own (record { array = now (array .entry); map = now (map .entry); hold = now (hold .entry); state = s }) ⌝ }
+{
+    if !frame_ok(s, array, map, hold) {
+        return 1;
+    }
+    if own {
+        return 0;
+    }
+    let w = s.work;
+    if is_idle(w) {
+        return 0;
+    }
+    17
+}

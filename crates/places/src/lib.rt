@@ -1,0 +1,173 @@
+// The places of a state and the state with one part replaced, by value.
+ghost use mathlib.Core.Path.{_≡_};
+ghost use Prim.Native.Nat.{_+_, _<_};
+ghost use Rattle.model.specs.Lists.{find};
+ghost use Rattle.model.specs.Zones.{hasId, active};
+ghost use Rattle.model.specs.Frame.{badId};
+ghost use Rattle.model.specs.Transactions.{placeOf, withPlace, withVersion, begun, written};
+ghost use Rattle.model.specs.Strides.{withWork, withZones, withNumber};
+ghost use Rattle.places.specs.Ids.{idsOf, activeIn};
+use model::Place;
+use model::State;
+use model::Work;
+use model::Zones;
+
+/// Whether an identifier is 0 or 0xFFFFFFFF.
+pub fn bad_id(id: u32) -> bool
+    ensures { λ r. ⌜ r ≡ badId id ⌝ }
+{
+    if id == 0 {
+        return true;
+    }
+    id == State::NO_NUMBER
+}
+
+/// The first place with an identifier, or 8.
+pub fn find_id(places: [Place; 8], id: u32) -> usize
+    ensures { λ r. ⌜ r ≡ find (hasId id) places ⌝ }
+{
+    let mut i: usize = 0;
+    while i < 8 {
+        let p = places[i];
+        if p.id == id {
+            return i;
+        }
+        i += 1;
+    }
+    8
+}
+
+/// The place of an active identifier, or 8.
+pub fn place_of(places: [Place; 8], id: u32) -> usize
+    ensures { λ r. ⌜ r ≡ placeOf places id ⌝ }
+{
+    if id == 0 {
+        return 8;
+    }
+    find_id(places, id)
+}
+
+/// Whether an identifier is active.
+pub fn is_active(places: [Place; 8], id: u32) -> bool
+    ensures { λ r. ⌜ r ≡ active id places ⌝ }
+{
+    if id == 0 {
+        return false;
+    }
+    find_id(places, id) < 8
+}
+
+/// The identifiers of the places, 0 for a free one.
+pub fn ids_of(places: [Place; 8]) -> [u32; 8]
+    ensures { λ r. ⌜ r ≡ idsOf places ⌝ }
+{
+    let mut ids = [0u32; 8];
+    let mut i: usize = 0;
+    while i < 8 {
+        let p = places[i];
+        ids[i] = p.id;
+        i += 1;
+    }
+    ids
+}
+
+/// Whether an identifier other than 0 is among these.
+pub fn is_active_in(ids: [u32; 8], id: u32) -> bool
+    ensures { λ r. ⌜ r ≡ activeIn id ids ⌝ }
+{
+    if id == 0 {
+        return false;
+    }
+    let mut i: usize = 0;
+    while i < 8 {
+        if ids[i] == id {
+            return true;
+        }
+        i += 1;
+    }
+    false
+}
+
+/// The place of a transaction that was just begun.
+pub fn begun(id: u32) -> Place
+    ensures { λ r. ⌜ r ≡ begun id ⌝ }
+{
+    Place {
+        id,
+        count: 0,
+        lpns: [0u16; 64],
+        ppns: [0u16; 64],
+    }
+}
+
+/// The place with one more page, held, the one held before being programmed on page k.
+pub fn written(p: Place, k: u16, lpn: u16) -> Place
+    requires { ⌜ p .count < 64 ⌝ }
+    ensures { λ r. ⌜ r ≡ written p k lpn ⌝ }
+{
+    let n = p.count as usize;
+    let mut q = p;
+    q.lpns[n] = lpn;
+    q.count = p.count + 1;
+    if n == 0 {
+        return q;
+    }
+    q.ppns[n - 1] = k;
+    q
+}
+
+/// The state with another place.
+pub fn with_place(s: State, i: usize, p: Place) -> State
+    requires { ⌜ i < 8 ⌝ }
+    ensures { λ r. ⌜ r ≡ withPlace s i p ⌝ }
+{
+    let mut t = s;
+    t.places[i] = p;
+    t
+}
+
+/// The state with another last version.
+pub fn with_version(s: State, v: u32) -> State
+    ensures { λ r. ⌜ r ≡ withVersion s v ⌝ }
+{
+    let mut t = s;
+    t.version = v;
+    t
+}
+
+/// The state with another checkpoint number.
+pub fn with_number(s: State, n: u32) -> State
+    ensures { λ r. ⌜ r ≡ withNumber s n ⌝ }
+{
+    let mut t = s;
+    t.checkpoint = n;
+    t
+}
+
+/// The state with other zones.
+pub fn with_zones(s: State, z: Zones) -> State
+    ensures { λ r. ⌜ r ≡ withZones s z ⌝ }
+{
+    let mut t = s;
+    t.zones = z;
+    t
+}
+
+/// The state with another front block, first page and work under way.
+pub fn with_work(s: State, front: u8, first: u8, work: Work) -> State
+    ensures { λ r. ⌜ r ≡ withWork s front first work ⌝ }
+{
+    let g = s.geometry;
+    let z = s.zones;
+    let ps = s.places;
+    State {
+        geometry: g,
+        zones: z,
+        version: s.version,
+        checkpoint: s.checkpoint,
+        front,
+        first,
+        work,
+        places: ps,
+    }
+}

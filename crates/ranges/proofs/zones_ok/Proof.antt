@@ -1,0 +1,140 @@
+-- `ranges::zones_ok` meets its contract: the counts, then the lists one after the other. Assumes nothing.
+use mathlib.Core.Path.{_≡_, sym, ap, _∙_}
+use Prim.Native.Nat.{_+_}
+use native.Mathlib.Omega.{arith}
+use mathlib.Core.List.{_++_}
+use lib.ListN.{length, take, length-append, length-map}
+use lib.Seq.{length-take-le}
+use borrow.Author.Tests.{le-leb, lt-leb}
+use Rattle.model.specs.Zones.{availableOf, unavailableOf, freeOf, listedIn, zoneListsOk, zonesOk}
+use Rattle.arrays.specs.Ranges.{geometry-in}
+use Rattle.blocks.proofs.Kept.{kept-list, kept-count}
+use Rattle.ranges.proofs.Listed.{laidOk, laid-lists}
+use borrow.Author.Needs.{needs}
+use Rattle.ranges.proofs.zones_ok.Statement.{statement}
+use Rattle.ranges.proofs.zones_ok.Tie as tie
+
+cast-na : tie.Need-cast-na
+cast-na c = search needs
+
+cast-nu : tie.Need-cast-nu
+cast-nu c = search needs
+
+cast-nf : tie.Need-cast-nf
+cast-nf c = search needs
+
+add-if1 : tie.Need-add-if1
+add-if1 c = search needs
+
+add-if1-2 : tie.Need-add-if1-2
+add-if1-2 c = search needs
+
+cast-if1 : tie.Need-cast-if1
+cast-if1 c = search needs
+
+sub-if1 : tie.Need-sub-if1
+sub-if1 c =
+    let z = c .before .before .before .before .args .z in
+    let g = c .before .before .before .before .args .g in
+    let h = geometry-in g (c .before .before .before .before .pre) in
+    omega arith
+
+returns : tie.Need-returns
+unfolding zonesOk zoneListsOk
+returns c = simp (lt-leb _ _ (c .if1 .taken))
+
+returns-2 : tie.Need-returns-2
+unfolding zonesOk zoneListsOk
+returns-2 c = simp (le-leb _ _ (c .before .if1 .left), lt-leb _ _ (c .if2 .taken))
+
+listed-requires : tie.Need-listed-requires
+listed-requires c κs =
+    let z = c .before .before .before .before .before .before .args .z in
+    let g = c .before .before .before .before .before .before .args .g in
+    let h = geometry-in g (c .before .before .before .before .before .before .pre) in
+    record { available = omega arith; all = omega arith }
+
+array-share-prefix-list : tie.Need-array-share-prefix-list
+array-share-prefix-list c =
+    let z = c .before .before .before .before .before .before .before .before .args .z in
+    let g = c .before .before .before .before .before .before .before .before .args .g in
+    let h = geometry-in g (c .before .before .before .before .before .before .before .before .pre) in
+    let la : length (z .available) ≡ 3 = search needs in
+    let lu : length (z .unavailable) ≡ 126 = search needs in
+    let lf : length (z .free) ≡ 126 = search needs in
+    let ka = length-take-le (z .na) (z .available) (omega arith) in
+    let ku = length-take-le (z .nu) (z .unavailable) (omega arith) in
+    let kf = length-take-le (z .nf) (z .free) (omega arith) in
+    let k = kept-count (c .before .listed .result) (listedIn z) (c .before .listed .ensures) in
+    let l : length (listedIn z) ≡ z .na + (z .nu + z .nf) = omega (arith, length-append (availableOf z) (unavailableOf z ++ freeOf z), length-append (unavailableOf z) (freeOf z)) in
+    let m : length (c .before .listed .result .list) ≡ 126 = search needs in
+    omega arith
+
+slice-aggregate-lists-ok : tie.Need-slice-aggregate-lists-ok
+slice-aggregate-lists-ok c =
+    let z = c .before .before .before .before .before .before .before .before .before .args .z in
+    let g = c .before .before .before .before .before .before .before .before .before .args .g in
+    let h = geometry-in g (c .before .before .before .before .before .before .before .before .before .pre) in
+    let la : length (z .available) ≡ 3 = search needs in
+    let lu : length (z .unavailable) ≡ 126 = search needs in
+    let lf : length (z .free) ≡ 126 = search needs in
+    let ka = length-take-le (z .na) (z .available) (omega arith) in
+    let ku = length-take-le (z .nu) (z .unavailable) (omega arith) in
+    let kf = length-take-le (z .nf) (z .free) (omega arith) in
+    let k = kept-count (c .before .before .listed .result) (listedIn z) (c .before .before .listed .ensures) in
+    let l : length (listedIn z) ≡ z .na + (z .nu + z .nf) = omega (arith, length-append (availableOf z) (unavailableOf z ++ freeOf z), length-append (unavailableOf z) (freeOf z)) in
+    let m : length (c .before .before .listed .result .list) ≡ 126 = search needs in
+    sym (length-take-le (c .before .before .listed .result .n) (c .before .before .listed .result .list) (omega arith))
+
+lists-ok-requires : tie.Need-lists-ok-requires
+lists-ok-requires c κs =
+    let z = c .before .before .before .before .before .before .before .before .before .args .z in
+    let g = c .before .before .before .before .before .before .before .before .before .args .g in
+    let h = geometry-in g (c .before .before .before .before .before .before .before .before .before .pre) in
+    let la : length (z .available) ≡ 3 = search needs in
+    let lu : length (z .unavailable) ≡ 126 = search needs in
+    let lf : length (z .free) ≡ 126 = search needs in
+    let ka = length-take-le (z .na) (z .available) (omega arith) in
+    let ku = length-take-le (z .nu) (z .unavailable) (omega arith) in
+    let kf = length-take-le (z .nf) (z .free) (omega arith) in
+    let r = c .before .before .listed .result in
+    let e = kept-list r (listedIn z) (c .before .before .listed .ensures) in
+    let k = kept-count (c .before .before .listed .result) (listedIn z) (c .before .before .listed .ensures) in
+    let l : length (listedIn z) ≡ z .na + (z .nu + z .nf) = omega (arith, length-append (availableOf z) (unavailableOf z ++ freeOf z), length-append (unavailableOf z) (freeOf z)) in
+    let m : length (take (r .n) (r .list)) ≡ length (listedIn z) = ap length e in
+    record { shape = c .before .before .before .before .before .before .before .before .before .pre; parts = omega arith; all = omega arith }
+
+returns-3 : tie.Need-returns-3
+unfolding zonesOk
+returns-3 c =
+    let z = c .before .before .before .before .before .before .before .before .before .before .args .z in
+    let g = c .before .before .before .before .before .before .before .before .before .before .args .g in
+    let h = geometry-in g (c .before .before .before .before .before .before .before .before .before .before .pre) in
+    let la : length (z .available) ≡ 3 = search needs in
+    let lu : length (z .unavailable) ≡ 126 = search needs in
+    let lf : length (z .free) ≡ 126 = simp length-map at (c .before .before .before .before .before .before .before .before .before .before .good .1 .0 .1 .1 .1 .1 .1 .1 .0 .1 .0 .1) in
+    let ka = length-take-le (z .na) (z .available) (omega arith) in
+    let ku = length-take-le (z .nu) (z .unavailable) (omega arith) in
+    let kf = length-take-le (z .nf) (z .free) (omega arith) in
+    let r = c .before .before .before .listed .result in
+    let e = kept-list r (listedIn z) (c .before .before .before .listed .ensures) in
+    c .lists-ok .ensures ∙ ap (λ u. laidOk g u (z .na) (z .nu) (z .pointer)) e ∙ laid-lists g (availableOf z) (unavailableOf z) (freeOf z) (z .na) (z .nu) (z .nf) (z .pointer) ka ku kf
+
+pub zones-ok-spec : {M : Type 1} → statement M
+zones-ok-spec =
+    tie.close
+    (tie.spec
+    cast-na
+    cast-nu
+    cast-nf
+    add-if1
+    add-if1-2
+    cast-if1
+    sub-if1
+    returns
+    returns-2
+    listed-requires
+    array-share-prefix-list
+    slice-aggregate-lists-ok
+    lists-ok-requires
+    returns-3)

@@ -1,0 +1,5 @@
+pub mod Pages
+pub mod Picks
+pub mod Wanted
+pub mod Listed
+pub mod Sliding
