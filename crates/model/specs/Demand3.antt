@@ -1,5 +1,5 @@
--- Demand 3: "for every sequence of calls, however often the power is cut, at any bit of any program or erase, the next recovery succeeds and
--- every logical page reads exactly as the book has it". One claim about the list.
+-- Demand 3: for every sequence of calls and cuts, at any bit of any program or erase, the next recovery is done and every logical page reads
+-- exactly as the book has it. "Demand 3 is a single claim about the list, not one for each call."
 use Prim.Native.Nat.{ℕ, _<_}
 use mathlib.Core.Path.{_≡_}
 use mathlib.Core.List.{List}

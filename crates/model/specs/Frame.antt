@@ -40,6 +40,7 @@ placeOk g p =
 unfoldable pub alone : Place → List Place → Bool
 alone p later = eqb (p .id) 0 || all (λ (q : Place). not (hasId (p .id) q)) later
 
+-- each place is in range, and no identifier stands twice
 unfoldable pub placesOk : Geometry → List Place → Bool
 placesOk g ps = allTails (λ (p : Place) (later : List Place). placeOk g p && alone p later) ps
 
@@ -57,6 +58,7 @@ checkpointStrideOk g xs front first k =
     && ((not (eqb k 0) || eqb first 0)
     && blankAt xs (front * g .pages + (first + k))))
 
+-- "front place or stride number out of range; the next front page of a stride under way not erased": none of these
 unfoldable pub workOk : State → List ℕ → Work → Bool
 workOk s xs Idle = eqb (s .first) 0
 workOk s xs (Format k) = eqb (s .first) 0 && formatStrideOk (s .geometry) xs k

@@ -23,6 +23,7 @@ unfoldable pub lengthsOk : Geometry → List ℕ → List ℕ → List ℕ → B
 lengthsOk g array map hold =
     eqb (length array) (g .blocks * g .pages * 528) && (eqb (length map) (g .logical) && eqb (length hold) 4096)
 
+-- the same blocks, pages and logical pages
 unfoldable pub sameGeometry : Geometry → Geometry → Bool
 sameGeometry g h = eqb (g .blocks) (h .blocks) && (eqb (g .pages) (h .pages) && eqb (g .logical) (h .logical))
 
@@ -30,10 +31,11 @@ sameGeometry g h = eqb (g .blocks) (h .blocks) && (eqb (g .pages) (h .pages) && 
 unfoldable pub mapPages : Geometry → ℕ
 mapPages g = (g .logical + 255) / 256
 
--- "Blocks 0 and 1 are the front, the others data blocks": a data block, and a page of one
+-- "Blocks 0 and 1 are the front, the others data blocks": a data block
 unfoldable pub dataBlock : Geometry → ℕ → Bool
 dataBlock g b = leb 2 b && ltb b (g .blocks)
 
+-- a page of a data block
 unfoldable pub dataPage : Geometry → ℕ → Bool
 dataPage g k = leb (2 * g .pages) k && ltb k (g .blocks * g .pages)
 
@@ -53,5 +55,6 @@ enterPage map lpn ppn = set map lpn ppn
 unfoldable pub entryOk : Geometry → List ℕ → ℕ → Bool
 entryOk g seen x = cond (eqb x unmapped) true (cond (dataPage g x) (not (elem x seen)) false)
 
+-- every entry passes with those before it
 unfoldable pub mapOk : Geometry → List ℕ → Bool
 mapOk g map = allHeads (entryOk g) [] map

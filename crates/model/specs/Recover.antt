@@ -19,12 +19,15 @@ use Rattle.model.specs.declared.Work.the-variants.{Idle}
 abbrev pub entriesAt : Geometry → List ℕ → ℕ → List ℕ
 entriesAt g xs k = loadMap xs k (mapPages g)
 
+-- the data of its zone page
 abbrev pub zonesAt : Geometry → List ℕ → ℕ → List ℕ
 zonesAt g xs k = dataAt xs (k + mapPages g)
 
+-- its last version
 abbrev pub floorAt : Geometry → List ℕ → ℕ → ℕ
 floorAt g xs k = le32 (zonesAt g xs k) 0
 
+-- the whole pages that are scanned with its zones
 abbrev pub scannedAt : Geometry → List ℕ → ℕ → List Entry
 scannedAt g xs k = scanOf xs (g .pages) (zonesIn (zonesAt g xs k))
 
@@ -33,6 +36,7 @@ scannedAt g xs k = scanOf xs (g .pages) (zonesIn (zonesAt g xs k))
 unfoldable pub recoveredMap : Geometry → List ℕ → ℕ → List ℕ
 recoveredMap g xs k = redone (floorAt g xs k) (scannedAt g xs k) (take (g .logical) (entriesAt g xs k))
 
+-- the state
 unfoldable pub recoveredState : Geometry → List ℕ → ℕ → State
 recoveredState g xs k =
     record {
@@ -46,6 +50,7 @@ recoveredState g xs k =
       places = replicate 8 freePlace;
     }
 
+-- nothing is programmed, and "the hold is unchanged"
 unfoldable pub recoverPlan : Geometry → ℕ → World → Plan
 recoverPlan g k w =
     record { answer = 0; op = none; map = recoveredMap g (w .array) k; hold = w .hold; state = recoveredState g (w .array) k }
@@ -58,5 +63,6 @@ recoverFrom g w (at k) =
     (cond (not (pagesGood (g .logical) (scannedAt g (w .array) k))) (refuse w 4)
     (recoverPlan g k w))
 
+-- refusal 1 first
 unfoldable pub planRecover : Geometry → World → Plan
 planRecover g w = cond (lentOk g w) (recoverFrom g w (newest (w .array) (mapPages g) (g .pages))) (refuse w 1)

@@ -30,6 +30,7 @@ entryGood logical seen e =
     && ((not (eqb (e .id) 0) || eqb (e .cnt) 1)
     && cond (isMark e) (not (eqb (e .ver) 0) && markNew seen e) (eqb (e .ver) 0))))))
 
+-- every scanned page passes with those before it
 unfoldable pub pagesGood : ℕ → List Entry → Bool
 pagesGood logical es = allHeads (entryGood logical) [] es
 
@@ -71,5 +72,6 @@ unfoldable pub enter : List ℕ → List Entry → List ℕ
 enter m [] = m
 enter m (e ∷ es) = enter (enterPage m (e .lpn) (e .ppn)) es
 
+-- the checkpoint's map with the applied pages entered
 unfoldable pub redone : ℕ → List Entry → List ℕ → List ℕ
 redone floor es m = enter m (applied floor es)

@@ -25,12 +25,13 @@ fits (read lpn) = ltb lpn 65536
 fits checkpoint = true
 fits reclaim = true
 
--- live: "array, map, hold and state as the one before left them"; dark: "the state is lost", and "until a recover is done, only recovers follow,
+-- live: "array, map, hold and state as the one before left them"; dark: "the state is lost", and "Until a recover is done, only recovers follow,
 -- with any state, map and hold"
 pub data Phase : Type 0 where
   live : World → Phase
   dark : List ℕ → Phase
 
+-- the array of a phase
 abbrev pub arrayOf : Phase → List ℕ
 arrayOf (live w) = w .array
 arrayOf (dark xs) = xs
@@ -68,6 +69,7 @@ cutEvent c w lets =
     let n = p .state .geometry .pages in
     cutIn c (programs (p .op)) (dueBits n (p .op) (w .array)) (turnedBits n (p .op) lets (w .array))
 
+-- the array that the cut leaves
 unfoldable pub cutArray : Call → World → List ℕ → List ℕ
 cutArray c w lets = cutOp (plan c w .state .geometry .pages) (plan c w .op) lets (w .array)
 

@@ -31,6 +31,7 @@ withWork s f q k =
       places = s .places;
     }
 
+-- the state with other zones
 unfoldable pub withZones : State → Zones → State
 withZones s z =
     record {
@@ -44,6 +45,7 @@ withZones s z =
       places = s .places;
     }
 
+-- the state with another checkpoint number
 unfoldable pub withNumber : State → ℕ → State
 withNumber s n =
     record {
@@ -93,6 +95,7 @@ zoneStride q i w =
       state = withNumber (withZones (withWork s (s .front) 0 Idle) z) (s .checkpoint + 1);
     }
 
+-- page i: a map page, or the zone page behind them
 unfoldable pub pageStride : ℕ → ℕ → World → Plan
 pageStride q i w = cond (ltb i (mapPages (w .state .geometry))) (mapStride q i w) (zoneStride q i w)
 
@@ -115,12 +118,14 @@ firstStride w =
     let used = usedIn (w .array) (s .geometry .pages) (s .front) in
     cond (ltb (s .geometry .pages - used) (mapPages (s .geometry) + 1)) (otherStride w) (pageStride used 0 w)
 
+-- the stride that a call does, by the work under way
 unfoldable pub checkpointStride : World → Work → Plan
 checkpointStride w Idle = firstStride w
 checkpointStride w (Format k) = refuse w 17
 checkpointStride w (Checkpoint k) = pageStride (w .state .first) k w
 checkpointStride w Reclaim = refuse w 17
 
+-- checkpoint: 1, 17, 13
 unfoldable pub planCheckpoint : World → Plan
 planCheckpoint w =
     unless (gate (isCheckpoint (w .state .work)) w) w
@@ -194,6 +199,7 @@ reclaimStride w (at b) =
     (cond (ltb (cleanPages w) due) (refuse w 16)
     (copyStride (lowestFrom (w .map) (b * p) p) w))))
 
+-- reclaim: 1, 17, then 15, 13, 16
 unfoldable pub planReclaim : World → Plan
 planReclaim w = unless (gate (isReclaim (w .state .work)) w) w (reclaimStride w (picked w))
 
@@ -236,6 +242,7 @@ formatStride g k w =
     (cond (ltb (k - g .blocks) (mapPages g)) (formatMore g k (program (k - g .blocks) (mapPage (blankMap g) (k - g .blocks) 1)) w)
     (formatLast g w))
 
+-- format: 1
 unfoldable pub planFormat : Geometry → World → Plan
 planFormat g w =
     cond (lentOk g w && formatWorkOk g w (w .state .work))

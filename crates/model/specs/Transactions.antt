@@ -22,6 +22,7 @@ unless n w p = cond (eqb n 0) p (refuse w n)
 unfoldable pub placeOf : List Place → ℕ → ℕ
 placeOf ps id = cond (eqb id 0) 8 (find (hasId id) ps)
 
+-- the state with another place i
 unfoldable pub withPlace : State → ℕ → Place → State
 withPlace s i p =
     record {
@@ -35,6 +36,7 @@ withPlace s i p =
       places = set (s .places) i p;
     }
 
+-- the state with another last version
 unfoldable pub withVersion : State → ℕ → State
 withVersion s v =
     record {
@@ -88,6 +90,7 @@ begun id = record { id = id; count = 0; lpns = replicate 64 0; ppns = replicate 
 unfoldable pub liveId : ℕ → World → Bool
 liveId id w = active id (w .state .places) || onPages id (scanOf (w .array) (w .state .geometry .pages) (w .state .zones))
 
+-- begin
 unfoldable pub planBegin : ℕ → World → Plan
 planBegin id w =
     let s = w .state in
@@ -117,6 +120,7 @@ written p k lpn =
 unfoldable pub heldOp : World → ℕ → Place → Op
 heldOp w i p = cond (eqb (p .count) 0) none (program (nextPage w) (dataBytes (heldAt i (w .hold)) (heldPage p) 0 (p .id) 0))
 
+-- the held page is programmed, the new one held
 unfoldable pub writePlan : ℕ → Place → ℕ → List ℕ → World → Plan
 writePlan i p lpn d w =
     record {
@@ -127,6 +131,7 @@ writePlan i p lpn d w =
       state = withPlace (w .state) i (written p (nextPage w) lpn);
     }
 
+-- write
 unfoldable pub planWrite : ℕ → ℕ → List ℕ → World → Plan
 planWrite id lpn d w =
     let s = w .state in
@@ -145,9 +150,11 @@ planWrite id lpn d w =
 abbrev pub loneOp : ℕ → List ℕ → World → Op
 loneOp lpn d w = program (nextPage w) (dataBytes d lpn 1 0 (w .state .version + 1))
 
+-- the map with its page entered
 abbrev pub loneMap : ℕ → World → List ℕ
 loneMap lpn w = enterPage (w .map) lpn (nextPage w)
 
+-- what a lone write does
 unfoldable pub lonePlan : ℕ → List ℕ → World → Plan
 lonePlan lpn d w =
     record {
@@ -158,6 +165,7 @@ lonePlan lpn d w =
       state = withVersion (w .state) (w .state .version + 1);
     }
 
+-- lone write
 unfoldable pub planLone : ℕ → List ℕ → World → Plan
 planLone lpn d w =
     let s = w .state in
@@ -191,6 +199,7 @@ markPlan i p w =
 unfoldable pub forgetPlan : ℕ → World → Plan
 forgetPlan i w = record { answer = 0; op = none; map = w .map; hold = w .hold; state = withPlace (w .state) i freePlace }
 
+-- commit
 unfoldable pub planCommit : ℕ → World → Plan
 planCommit id w =
     let s = w .state in

@@ -17,15 +17,19 @@ use Rattle.model.specs.declared.Place.{Place}
 abbrev pub availableOf : Zones → List ℕ
 availableOf z = take (z .na) (z .available)
 
+-- the unavailable blocks, in order
 abbrev pub unavailableOf : Zones → List ℕ
 unavailableOf z = take (z .nu) (z .unavailable)
 
+-- the free blocks, ascending
 abbrev pub freeOf : Zones → List ℕ
 freeOf z = take (z .nf) (z .free)
 
+-- all blocks of the three lists
 abbrev pub listedIn : Zones → List ℕ
 listedIn z = availableOf z ++ (unavailableOf z ++ freeOf z)
 
+-- a block in none of them
 unfoldable pub checkpointed : Zones → ℕ → Bool
 checkpointed z b = not (elem b (listedIn z))
 
@@ -60,6 +64,7 @@ zoneListsOk g na nu nf a u f p =
     && (rising f
     && dataBlock g p)))
 
+-- the lists of a zone record pass it
 unfoldable pub zonesOk : Geometry → Zones → Bool
 zonesOk g z = zoneListsOk g (z .na) (z .nu) (z .nf) (availableOf z) (unavailableOf z) (freeOf z) (z .pointer)
 
@@ -68,6 +73,7 @@ zonesOk g z = zoneListsOk g (z .na) (z .nu) (z .nf) (availableOf z) (unavailable
 unfoldable pub usedIn : List ℕ → ℕ → ℕ → ℕ
 usedIn xs p b = usedFrom xs (b * p) p
 
+-- a block without clean pages
 unfoldable pub isFull : List ℕ → ℕ → ℕ → Bool
 isFull xs p b = eqb (usedIn xs p b) p
 
@@ -92,6 +98,7 @@ pub record Entry : Type 0 where
   pub kind : ℕ
   pub reserved : ℕ
 
+-- the entry of page k with this spare area
 unfoldable pub entryOf : ℕ → Spare → Entry
 entryOf k s = record { ppn = k; lpn = s .lpn; cnt = s .cnt; id = s .id; ver = s .ver; kind = s .kind; reserved = s .reserved }
 
@@ -134,6 +141,7 @@ wanted ps near e = not (eqb (e .id) 0) && (active (e .id) ps || onPages (e .id) 
 unfoldable pub staying : List ℕ → ℕ → List ℕ → List ℕ
 staying xs p bs = those (λ (b : ℕ). not (isFull xs p b)) bs
 
+-- the full ones
 unfoldable pub leaving : List ℕ → ℕ → List ℕ → List ℕ
 leaving xs p bs = those (isFull xs p) bs
 
@@ -171,6 +179,7 @@ unfoldable pub refill : Geometry → ℕ → Taken → Taken
 refill g zero t = t
 refill g (suc n) t = refill g n (cond (ltb (length (t .available)) 3 && not (eqb (length (t .free)) 0)) (takeOne g t) t)
 
+-- the record of what is left and the unavailable blocks
 unfoldable pub zonesTaken : List ℕ → Taken → Zones
 zonesTaken u t = zonesOf (t .available) u (t .free) (t .pointer)
 

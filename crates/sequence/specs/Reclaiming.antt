@@ -1,91 +1,89 @@
 -- A stride of reclaim keeps the world live with the same book: a copy as a lone write, or the erase of a block on which nothing is mapped.
 -- Cut at any bit, the array is sound with the same pages of the book.
-use mathlib.Core.Path.{_≡_, refl, sym, ap, _∙_, subst}
+use mathlib.Core.Path.{_≡_, refl, sym, _∙_, subst}
 use mathlib.Core.Logic.{_⊎_, inl, inr, _≢_}
-use mathlib.Core.Bool.{Bool, true, false, not, cond, _&&_, _||_}
-use Prim.Native.Nat.{ℕ, zero, suc, _+_, _-_, _*_, _≤_, _<_}
+use mathlib.Core.Bool.{Bool, true, false, _||_}
+use Prim.Native.Nat.{ℕ, suc, _+_, _-_, _*_, _≤_, _<_}
 use native.Mathlib.Omega.{arith}
 use native.Mathlib.Nat.{mul-le-mul-right}
-use mathlib.Core.List.{List, [], _∷_, _++_}
-use lib.ListN.{length, getD, set, length-set}
+use mathlib.Core.List.{List, [], _∷_}
+use lib.ListN.{length, getD, length-set}
 use lib.Dec.{eqb, leb, ltb}
-use borrow.Author.Tests.{eqb-true, eqb-false, ltb-true, ltb-false, leb-true, leb-false, le-ltb}
+use borrow.Author.Tests.{eqb-true, eqb-false, ltb-false, leb-false, le-ltb}
 use Rattle.model.specs.Lists.{find, count}
 use Rattle.model.specs.Page.{pageAt, pageBytes, dataAt, wholeAt}
 use Rattle.model.specs.Geometry.{unmapped, dataBlock}
-use Rattle.model.specs.Zones.{Entry, scanOf, checkpointed, freed, availableOf, cleanIn}
 use Rattle.model.specs.Answers.{refused}
-use Rattle.model.specs.World.{World, Plan, Op, refuse, none, program, erase, applyOp, cutOp, turn, dueBits, turnedBits, everyTurned}
-use Rattle.model.specs.Frame.{frameOk, isIdle}
-use Rattle.model.specs.Checkpoint.{Found, nothing, at}
+use Rattle.model.specs.World.{World, Plan, erase, applyOp, cutOp}
+use Rattle.model.specs.Frame.{isIdle}
+use Rattle.model.specs.Checkpoint.{Found, at}
 use Rattle.model.specs.Transactions.{cleanPages, nextPage, spent, dataBytes, loneMap, withVersion}
-use Rattle.model.specs.Strides.{withWork, withZones, isReclaim, mappedIn, pickFrom, picked, lowestFrom, copyStride, freeStride, reclaimStride, planReclaim}
-use Rattle.model.specs.Commands.{Call, reclaim, plan, carried, exec, Outcome}
-use Rattle.model.specs.Book.{Book, Content, Event, called, tell, entering, changing}
-use Rattle.model.specs.Sequence.{cutArray}
+use Rattle.model.specs.Strides.{withWork, withZones, isReclaim, mappedIn, picked, lowestFrom, copyStride, freeStride, reclaimStride, planReclaim}
+use Rattle.model.specs.Commands.{reclaim, plan, carried}
+use Rattle.model.specs.Book.{Book, entering, changing}
 use Rattle.model.specs.declared.Geometry.{Geometry}
-use Rattle.model.specs.declared.Place.{Place}
 use Rattle.model.specs.declared.Spare.{Spare}
-use Rattle.model.specs.declared.State.{State}
-use Rattle.model.specs.declared.Zones.{Zones}
 use Rattle.model.specs.declared.Work.{Work}
 use Rattle.model.specs.declared.Work.the-variants.{Idle, Format, Checkpoint, Reclaim}
 use Rattle.arrays.specs.Tests.{Is, eqb-cases, clash, decide}
 use Rattle.arrays.specs.Bytelist.{Bytes}
-use Rattle.arrays.specs.Pages.{PageFits, BlockFits, Outside, length-data, bytes-data, data-same}
-use Rattle.arrays.specs.Ranges.{InGeometry, block-is, block-most, page-most, page-small, any-page-fits, data-page-fits, data-block-fits}
+use Rattle.arrays.specs.Pages.{BlockFits, Outside, length-data, bytes-data, data-same}
+use Rattle.arrays.specs.Ranges.{block-is, block-most, page-small, any-page-fits, data-block-fits}
 use Rattle.arrays.specs.Image.{SpareFits}
-use Rattle.arrays.specs.Ops.{length-apply, length-cut, bytes-apply, bytes-cut, erase-other, erase-others, cut-erase-other, cut-erase-others}
-use Rattle.arrays.specs.Arrays.{Leans, leans-apply, leans-cut, cut-done}
-use Rattle.front.specs.Local.{SameFront}
-use Rattle.front.specs.Front.{Front, front-away}
-use Rattle.front.specs.Kept.{Kept, calm, kept-away}
+use Rattle.arrays.specs.Whole.{whole-not-blank}
+use Rattle.arrays.specs.Ops.{length-apply, length-cut, bytes-apply, bytes-cut, program-other, erase-other, erase-others, cut-erase-other, cut-erase-others}
+use Rattle.arrays.specs.Arrays.{leans-apply, leans-cut}
+use Rattle.front.specs.Newest.{SameFront}
+use Rattle.front.specs.Front.{front-away}
+use Rattle.front.specs.Kept.{calm, kept-away}
 use Rattle.scanlog.specs.Occ.{occ, occ-nil, occ-cons, occ-no}
-use Rattle.scanlog.specs.Shape.{Unlisted, checkpointed-unlisted}
-use Rattle.scanlog.specs.Pick.{Fewest, Picked, inBlock, block-inside, inside-block, picked-is, lowest, lowest-inside, lowest-found, lowest-at}
-use Rattle.scanlog.specs.Logged.{Logged}
-use Rattle.scanlog.specs.Open.{Opens}
-use Rattle.scanlog.specs.Tidy.{Tidy}
-use Rattle.scanlog.specs.Free.{Grown, grown-freed, tidy-freed, scan-freed}
-use Rattle.sequence.specs.Maps.{MapGood, good-set, entry-in}
-use Rattle.sequence.specs.Contents.{Contents, contents-copy, mapped-whole}
+use Rattle.scanlog.specs.Shape.{Unlisted}
+use Rattle.scanlog.specs.Pick.{Fewest, Picked, inBlock, inside-block, picked-is, lowest, lowest-inside, lowest-found, lowest-at}
+use Rattle.scanlog.specs.Reclaim.{GoingOn, going-unlisted, going-copy, stride-goes, stride-going}
+use Rattle.scanlog.specs.Free.{grown-freed, tidy-freed, scan-freed}
+use Rattle.sequence.specs.Refused.{keeps-block}
+use Rattle.sequence.specs.Maps.{good-set, entry-in}
+use Rattle.sequence.specs.Contents.{contents-copy, mapped-whole}
 use Rattle.sequence.specs.Places.{placeAt}
 use Rattle.sequence.specs.Sound.{Sound, Stored}
-use Rattle.sequence.specs.Live.{Changing, Live, live-range, live-logged, scanned}
-use Rattle.sequence.specs.View.{View, no, yes, view-test, view-gate, view-cond, Keeps, done-live, more-live, view-keeps}
-use Rattle.sequence.specs.Append.{appended, next-is-data, next-mapped, next-blank, next-free, append-ok, append-whole, append-data, append-keeps, append-tidy, append-scan, append-front, append-sound, append-contents, cut-sound}
+use Rattle.sequence.specs.Live.{Live, live-range, scanned}
+use Rattle.sequence.specs.View.{View, no, yes, view-gate, view-cond, Keeps, done-live, more-live, view-keeps}
+use Rattle.sequence.specs.Append.{appended, next-is-data, next-mapped, next-blank, next-free, append-ok, append-whole, append-data, append-keeps, append-tidy, append-scan, append-front, append-sound, append-contents, Appends, appends}
 use Rattle.sequence.specs.Lone.{changing-grow, laid-still, loneSpare, loneFits, lone-logged, lone-opens}
 use Rattle.sequence.specs.Spared.{Spared, spared-changing, spared-sound, block-spares}
 
 -- ---- the plan
 -- nothing is under way but a reclaim
-pub reclaim-calm : (k : Work) → (isIdle k || isReclaim k) ≡ true → calm k ≡ true
+reclaim-calm : (k : Work) → (isIdle k || isReclaim k) ≡ true → calm k ≡ true
 reclaim-calm Idle h = refl
 reclaim-calm (Format k) h = h
 reclaim-calm (Checkpoint k) h = h
 reclaim-calm Reclaim h = refl
 
+-- what a stride does to the picked block c
 pub data Reclaims (w : World) : Plan → Type 0 where
-  copies : (c : ℕ) → calm (w .state .work) ≡ true → picked w ≡ at c → 0 < mappedIn (w .map) (w .state .geometry .pages) c
-      → spent (w .state .version) (mappedIn (w .map) (w .state .geometry .pages) c) ≡ false → ltb (cleanPages w) (mappedIn (w .map) (w .state .geometry .pages) c) ≡ false
+  copies : (c : ℕ) → calm (w .state .work) ≡ true → GoingOn w c → 0 < mappedIn (w .map) (w .state .geometry .pages) c
       → Reclaims w (copyStride (lowestFrom (w .map) (c * w .state .geometry .pages) (w .state .geometry .pages)) w)
-  frees : (c : ℕ) → calm (w .state .work) ≡ true → picked w ≡ at c → mappedIn (w .map) (w .state .geometry .pages) c ≡ 0 → Reclaims w (freeStride c w)
+  frees : (c : ℕ) → calm (w .state .work) ≡ true → GoingOn w c → mappedIn (w .map) (w .state .geometry .pages) c ≡ 0 → Reclaims w (freeStride c w)
 
-stride-view : (w : World) → calm (w .state .work) ≡ true → (f : Found) → picked w ≡ f → View w (Reclaims w) (reclaimStride w f)
-unfolding reclaimStride refused
-stride-view w calm′ nothing e = no 15 refl
-stride-view w calm′ (at c) e =
-    let due = mappedIn (w .map) (w .state .geometry .pages) c in
-    view-test w (Reclaims w) (leb (w .state .geometry .pages) due) 15 _ refl (λ a.
-    view-cond w (Reclaims w) (eqb due 0) _ _ (λ z. yes _ (frees c calm′ e (eqb-true due 0 z))) (λ z.
-    view-test w (Reclaims w) (spent (w .state .version) due) 13 _ refl (λ s.
-    view-test w (Reclaims w) (ltb (cleanPages w) due) 16 _ refl (λ r.
-    let m : due ≢ 0 = eqb-false due 0 z in
-    yes _ (copies c calm′ e (omega arith) s r)))))
+stride-view : (w : World) → w .state .version ≤ 4294967294 → calm (w .state .work) ≡ true → View w (Reclaims w) (reclaimStride w (picked w))
+stride-view w v calm′ = go (decide (refused (reclaimStride w (picked w) .answer)))
+  where
+    going : (c : ℕ) → GoingOn w c → View w (Reclaims w) (reclaimStride w (picked w))
+    going c h =
+        let due = mappedIn (w .map) (w .state .geometry .pages) c in
+        subst (View w (Reclaims w)) (sym (stride-goes w c h))
+        (view-cond w (Reclaims w) (eqb due 0) _ _ (λ z. yes _ (frees c calm′ h (eqb-true due 0 z))) (λ z.
+        let m : due ≢ 0 = eqb-false due 0 z in
+        yes _ (copies c calm′ h (omega arith))))
 
-pub reclaim-view : (w : World) → View w (Reclaims w) (planReclaim w)
+    go : (refused (reclaimStride w (picked w) .answer) ≡ true) ⊎ (refused (reclaimStride w (picked w) .answer) ≡ false) → View w (Reclaims w) (reclaimStride w (picked w))
+    go (inl r) = subst (View w (Reclaims w)) (sym (keeps-block w (picked w) .same r)) (no _ r)
+    go (inr r) = let h = stride-going w v r in going (h .0) (h .1)
+
+pub reclaim-view : (w : World) → w .state .version ≤ 4294967294 → View w (Reclaims w) (planReclaim w)
 unfolding planReclaim
-reclaim-view w = view-gate w (Reclaims w) (isReclaim (w .state .work)) _ (λ f i. stride-view w (reclaim-calm (w .state .work) i) (picked w) refl)
+reclaim-view w v = view-gate w (Reclaims w) (isReclaim (w .state .work)) _ (λ f i. stride-view w v (reclaim-calm (w .state .work) i))
 
 -- a count of none has no mapped page in it
 none-in : (p c : ℕ) (map : List ℕ) (k : ℕ) → 0 < occ k map → mappedIn map p c ≡ 0 → inBlock p c k ≡ false
@@ -99,7 +97,8 @@ none-in p c (x ∷ map) k o z = go (eqb-cases k x) (inBlock p c x) refl (none-in
     go (inr q) false e ih = let y : count (inBlock p c) map ≡ 0 = rw e at z in ih (omega (arith, occ-cons k x map, occ-no k x (q .0))) y
 
 -- ---- the picked block
-module _ (w : World) (b : Book) (h : Live w b) (c : ℕ) (pick : picked w ≡ at c) where
+module _ (w : World) (b : Book) (h : Live w b) (c : ℕ) (on : GoingOn w c) where
+  -- geometry and array
   abbrev g : Geometry
   g = w .state .geometry
 
@@ -107,11 +106,10 @@ module _ (w : World) (b : Book) (h : Live w b) (c : ℕ) (pick : picked w ≡ at
   xs = w .array
 
   few : Fewest (w .state .zones) (w .map) (g .pages) 2 (2 + (g .blocks - 2)) c
-  unfolding picked
-  few = subst (λ (f : Found). Picked (w .state .zones) (w .map) (g .pages) 2 (2 + (g .blocks - 2)) f) pick (picked-is (w .state .zones) (w .map) (g .pages) 2 (g .blocks - 2))
+  few = subst (λ (f : Found). Picked (w .state .zones) (w .map) (g .pages) 2 (2 + (g .blocks - 2)) f) (on .pick) (picked-is (w .state .zones) (w .map) (g .pages) 2 (g .blocks - 2))
 
   unlisted : Unlisted (w .state .zones) c
-  unlisted = checkpointed-unlisted (w .state .zones) c (few .is)
+  unlisted = going-unlisted g (w .state .zones) (w .map) c (on .pick)
 
   is-data : dataBlock g c ≡ true
   is-data = block-is g c (few .low) (omega (arith, few .high, live-range w b h .blocks-least))
@@ -120,8 +118,8 @@ module _ (w : World) (b : Book) (h : Live w b) (c : ℕ) (pick : picked w ≡ at
   inside = data-block-fits g xs (h .sound .long) c is-data
 
   -- ---- a copy
-  module _ (calm′ : calm (w .state .work) ≡ true) (some : 0 < mappedIn (w .map) (g .pages) c) (numbers : spent (w .state .version) (mappedIn (w .map) (g .pages) c) ≡ false)
-      (reserve : ltb (cleanPages w) (mappedIn (w .map) (g .pages) c) ≡ false) where
+  module _ (calm′ : calm (w .state .work) ≡ true) (some : 0 < mappedIn (w .map) (g .pages) c) where
+    -- the page that is copied, and the logical page that it is
     abbrev j : ℕ
     j = lowest (w .map) (g .pages) c some
 
@@ -146,6 +144,7 @@ module _ (w : World) (b : Book) (h : Live w b) (c : ℕ) (pick : picked w ≡ at
     j-whole : wholeAt xs j ≡ true
     j-whole = mapped-whole xs (w .map) (b .pages) (h .sound .contents) j j-mapped (subst (λ (x : ℕ). 0 < occ x (w .map)) leads (entry-in (w .map) lpn low))
 
+    -- its data
     abbrev d : List ℕ
     d = dataAt xs j
 
@@ -156,20 +155,22 @@ module _ (w : World) (b : Book) (h : Live w b) (c : ℕ) (pick : picked w ≡ at
     small = bytes-data xs j (h .sound .bytes)
 
     clean : 0 < cleanPages w
-    clean = omega (arith, ltb-false (cleanPages w) (mappedIn (w .map) (g .pages) c) reserve)
+    clean = omega (arith, on .reserve)
 
     logical-low : lpn < g .logical
     logical-low = omega (arith, low, h .sound .wide)
 
     more : spent (w .state .version) 1 ≡ false
-    more = le-ltb 4294967294 (w .state .version + 1) (omega (arith, ltb-false 4294967294 (w .state .version + mappedIn (w .map) (g .pages) c) numbers))
+    more = le-ltb 4294967294 (w .state .version + 1) (omega (arith, on .numbers))
 
+    -- the spare area of the copy
     abbrev s : Spare
     s = loneSpare lpn (w .state .version + 1)
 
     fit : SpareFits s
     fit = loneFits w b h clean lpn d long small logical-low more
 
+    -- its page, and the array after it
     abbrev k : ℕ
     k = nextPage w
 
@@ -198,17 +199,15 @@ module _ (w : World) (b : Book) (h : Live w b) (c : ℕ) (pick : picked w ≡ at
           (λ i l z. laid-still xs (w .map) lpn k (next-blank w b h clean d s long small fit) (placeAt (w .state .places) i .id)) (h .changing);
     }
 
-    -- cut: the copy is there, or the array is as it was
-    pub copy-cut : (lets : List ℕ) → Stored g (cutOp (g .pages) (copyStride j w .op) lets xs) (b .pages)
-    unfolding copyStride dataBytes
-    copy-cut lets = go (decide (everyTurned (dueBits (g .pages) (program k (pageBytes d s)) xs) (turnedBits (g .pages) (program k (pageBytes d s)) lets xs)))
-      where
-        go : (everyTurned (dueBits (g .pages) (program k (pageBytes d s)) xs) (turnedBits (g .pages) (program k (pageBytes d s)) lets xs) ≡ true)
-            ⊎ (everyTurned (dueBits (g .pages) (program k (pageBytes d s)) xs) (turnedBits (g .pages) (program k (pageBytes d s)) lets xs) ≡ false)
-            → Stored g (cutOp (g .pages) (program k (pageBytes d s)) lets xs) (b .pages)
-        go (inl t) = rw (cut-done (g .pages) xs k (pageBytes d s) (append-ok w b h clean d s long small fit) lets (h .sound .bytes) t)
-            (record { saved = h .saved; map = loneMap lpn w; version = w .state .version + 1; sound = copy-sound })
-        go (inr t) = record { saved = h .saved; map = w .map; version = w .state .version; sound = cut-sound w b h clean d s long small fit lets t }
+    -- "Each stride picks anew, in a sequence the same block", with one copy less to make
+    pub copy-going : GoingOn (carried (copyStride j w) w .world) c
+    unfolding carried copyStride withWork withVersion dataBytes
+    copy-going = going-copy g (w .state .zones) xs ys (w .map) (w .state .version) c on (h .tidy) some
+        (program-other (g .pages) xs k (pageBytes d s) (append-ok w b h clean d s long small fit .fits)) (whole-not-blank ys k (append-whole w b h clean d s long small fit))
+
+    -- it appends the copy
+    pub copy-appends : Appends w b (copyStride j w)
+    copy-appends = appends w b h clean d s long small fit (copyStride j w) (unfold copyStride dataBytes in refl) (unfold copyStride withWork withVersion in refl) (unfold copyStride withWork withVersion in refl)
 
   -- ---- the erase
   module _ (calm′ : calm (w .state .work) ≡ true) (zero′ : mappedIn (w .map) (g .pages) c ≡ 0) where
@@ -229,13 +228,14 @@ module _ (w : World) (b : Book) (h : Live w b) (c : ℕ) (pick : picked w ≡ at
         let m : 2 * g .pages ≤ c * g .pages = mul-le-mul-right (g .pages) (few .low) in
         o i (inl (omega arith))
 
+    -- the array after it
     abbrev erased : List ℕ
     erased = applyOp (g .pages) (erase c) xs
 
     spared : Spared g xs erased (w .state .zones) (w .map)
     spared = block-spares g xs erased (w .state .zones) (w .map) c unlisted (erase-other (g .pages) xs c inside) (erase-others (g .pages) xs c inside) outside
 
-    pub free-live : Live (carried (freeStride c w) w .world) b
+    free-live : Live (carried (freeStride c w) w .world) b
     unfolding carried freeStride withWork withZones
     free-live = record {
       saved = h .saved;
@@ -250,6 +250,10 @@ module _ (w : World) (b : Book) (h : Live w b) (c : ℕ) (pick : picked w ≡ at
       opens = rw (scan-freed g (w .state .zones) c unlisted is-data xs (h .tidy) inside) (h .opens);
       changing = spared-changing g xs erased (w .state .zones) (w .map) spared (w .hold) (w .state .places) b (h .opens) (h .changing);
     }
+
+    pub free-scan : scanned (carried (freeStride c w) w .world) ≡ scanned w
+    unfolding carried freeStride withWork withZones
+    free-scan = scan-freed g (w .state .zones) c unlisted is-data xs (h .tidy) inside
 
     pub free-cut : (lets : List ℕ) → Stored g (cutOp (g .pages) (erase c) lets xs) (b .pages)
     free-cut lets =
@@ -267,8 +271,8 @@ module _ (w : World) (b : Book) (h : Live w b) (c : ℕ) (pick : picked w ≡ at
 -- ---- reclaim keeps the world live
 pub reclaim-keeps : (w : World) (b : Book) → Live w b → Keeps reclaim w b
 unfolding plan
-reclaim-keeps w b h = view-keeps reclaim w b (Reclaims w) h (reclaim-view w) go
+reclaim-keeps w b h = view-keeps reclaim w b (Reclaims w) h (reclaim-view w (h .sound .last)) go
   where
     go : (p : Plan) → planReclaim w ≡ p → Reclaims w p → Keeps reclaim w b
-    go p e (copies c calm′ pick some numbers reserve) = more-live reclaim w b p e (unfold copyStride in refl) (copy-live w b h c pick calm′ some numbers reserve)
-    go p e (frees c calm′ pick zero′) = done-live reclaim w b p e (unfold freeStride in refl) (unfold entering changing in free-live w b h c pick calm′ zero′)
+    go p e (copies c calm′ on some) = more-live reclaim w b p e (unfold copyStride in refl) (copy-live w b h c on calm′ some)
+    go p e (frees c calm′ on zero′) = done-live reclaim w b p e (unfold freeStride in refl) (unfold entering changing in free-live w b h c on calm′ zero′)

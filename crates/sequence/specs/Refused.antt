@@ -1,16 +1,19 @@
--- A refusal does nothing and keeps everything, whatever the command; a read never changes anything.
+-- A refusal does nothing and keeps everything, whatever the command; a read never changes anything; a recover does nothing to the array.
 use Prim.Native.Nat.{ℕ}
 use mathlib.Core.Path.{_≡_, refl, ap}
-use mathlib.Core.Bool.{Bool, true, false, false≢true, cond}
+use mathlib.Core.Bool.{Bool, true, false, false≢true, not, cond}
 use mathlib.Core.List.{List}
 use lib.Dec.{eqb}
 use Rattle.model.specs.Answers.{refused}
-use Rattle.model.specs.World.{World, Op, Plan, refuse, applyOp}
-use Rattle.model.specs.Checkpoint.{Found, nothing, at}
+use Rattle.model.specs.Geometry.{mapPages}
+use Rattle.model.specs.World.{World, Op, none, Plan, refuse, applyOp}
+use Rattle.model.specs.Frame.{lentOk}
+use Rattle.model.specs.Checkpoint.{Found, nothing, at, newest, loadOk}
+use Rattle.model.specs.Recovery.{pagesGood}
 use Rattle.model.specs.Transactions.{unless, planBegin, planWrite, planLone, planCommit, planAbort, writePlan, lonePlan, markPlan, forgetPlan}
 use Rattle.model.specs.Strides.{planCheckpoint, planReclaim, planFormat, mapStride, zoneStride, pageStride, otherStride, firstStride, checkpointStride, copyStride, freeStride, reclaimStride, formatMore, formatLast, formatStride}
-use Rattle.model.specs.Recover.{planRecover, recoverFrom, recoverPlan}
-use Rattle.model.specs.Commands.{Call, format, recover, begin, write, lone, commit, abort, read, checkpoint, reclaim, plan, carried, exec, Outcome}
+use Rattle.model.specs.Recover.{planRecover, recoverFrom, recoverPlan, entriesAt, zonesAt, scannedAt}
+use Rattle.model.specs.Commands.{Call, format, recover, begin, write, lone, commit, abort, read, checkpoint, reclaim, plan, carried, exec}
 use Rattle.model.specs.declared.Geometry.{Geometry}
 use Rattle.model.specs.declared.State.{State}
 use Rattle.model.specs.declared.Work.{Work}
@@ -74,7 +77,7 @@ module _ (w : World) where
   unfolding planCheckpoint
   keeps-checkpoint = search (keeps-unless, keeps-cond, keeps-refuse, keeps-stride)
 
-  keeps-block : (f : Found) → Keeps w (reclaimStride w f)
+  pub keeps-block : (f : Found) → Keeps w (reclaimStride w f)
   unfolding reclaimStride freeStride copyStride
   keeps-block nothing = keeps-refuse 15
   keeps-block (at b) = search (keeps-cond, keeps-refuse, keeps-done, keeps-more) depth 9
@@ -118,3 +121,22 @@ module _ (w : World) where
 pub read-same : (lpn : ℕ) (w : World) → exec (read lpn) w .world ≡ w
 unfolding exec plan carried applyOp
 read-same lpn w = refl
+
+-- ---- recover "programs nothing"
+from-none : (g : Geometry) (w : World) (f : Found) → recoverFrom g w f .op ≡ none
+unfolding recoverFrom recoverPlan
+from-none g w nothing = refl
+from-none g w (at k) = go (not (loadOk g (entriesAt g (w .array) k) (zonesAt g (w .array) k))) (not (pagesGood (g .logical) (scannedAt g (w .array) k)))
+  where
+    go : (s t : Bool) → cond s (refuse w 3) (cond t (refuse w 4) (recoverPlan g k w)) .op ≡ none
+    go true t = refl
+    go false true = refl
+    go false false = refl
+
+pub recover-none : (g : Geometry) (w : World) → plan (recover g) w .op ≡ none
+unfolding plan planRecover
+recover-none g w = go (lentOk g w) (newest (w .array) (mapPages g) (g .pages))
+  where
+    go : (t : Bool) (f : Found) → cond t (recoverFrom g w f) (refuse w 1) .op ≡ none
+    go true f = from-none g w f
+    go false f = refl

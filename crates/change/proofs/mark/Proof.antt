@@ -45,7 +45,7 @@ cast-ppns c =
     omega arith
 
 sub-ppns : tie.Need-sub-ppns
-sub-ppns c = search needs
+sub-ppns c = c .before .before .before .before .before .before .before .before .before .before .before .before .before .before .before .before .pre .1 .1
 
 mul-ppns : tie.Need-mul-ppns
 mul-ppns c = search needs

@@ -1,0 +1,164 @@
+-- What document 01 claims on the way to demand 3, of the worlds of a sequence, each sentence as a theorem.
+use mathlib.Core.Path.{_≡_, refl, sym, _∙_, subst}
+use mathlib.Core.Bool.{true, false, false≢true}
+use Prim.Native.Nat.{ℕ, _<_}
+use mathlib.Core.List.{List, [], _∷_, _++_}
+use Rattle.model.specs.Page.{spareOf}
+use Rattle.model.specs.Geometry.{geometryOk, dataPage}
+use Rattle.model.specs.Zones.{entryOf}
+use Rattle.model.specs.Answers.{refused}
+use Rattle.model.specs.World.{World, Op, program}
+use Rattle.model.specs.Frame.{isIdle}
+use Rattle.model.specs.Transactions.{readAnswer}
+use Rattle.model.specs.Strides.{isCheckpoint, isReclaim, picked}
+use Rattle.model.specs.Commands.{Call, format, recover, begin, write, lone, commit, abort, read, checkpoint, reclaim, plan, carried, exec}
+use Rattle.model.specs.Book.{Book, Event, called, cutIn, cutBetween, blank, tell, story, pageOf, contentAnswer}
+use Rattle.model.specs.Sequence.{fits, Phase, live, dark, Allowed, isRecovery, cutEvent, Step, call, cut, between, back, failed, lost, again, Run, stop, next, Formatted}
+use Rattle.model.specs.declared.Geometry.{Geometry}
+use Rattle.model.specs.declared.Work.{Work}
+use Rattle.scanlog.specs.Sublist.{Sublist}
+use Rattle.sequence.specs.Live.{live-reads, scanned}
+use Rattle.sequence.specs.Start.{formatted-live, formatted-idle, some-formatted}
+use Rattle.sequence.specs.ScanOrder.{added, ScannedLast, InOrder, call-orders}
+use Rattle.sequence.specs.UnderWay.{another, GoesOn, More, busy-same, checkpoint-not-refused, reclaim-not-refused, goes-call, goes-recovered, copy-picks-same, checkpoint-more, reclaim-more}
+use Rattle.sequence.specs.Theorem.{LiveAt, Holds, step-holds, run-holds}
+
+-- ---- the worlds of a sequence
+-- calls and cuts es after a format of geometry g have led to world w, whose state is not lost
+pub record InSequence (g : Geometry) (es : List Event) (w : World) : Type 0 where
+  pub start : World
+  pub formatted : Formatted g start
+  pub run : Run g (live start) es (live w)
+
+-- where a reclaim is under way it can go on to its end
+abbrev Goes : Phase → Type 0
+Goes (live w) = GoesOn w
+Goes (dark xs) = Unit {0}
+
+goes-step : (g : Geometry) (b : Book) (p : Phase) (e : Event) (q : Phase) → Step g p e q → Holds g b p → Goes p → Goes q
+goes-step g b p e q (call c w f a) h on = goes-call g c w b a (h .world) on
+goes-step g b p e q (cut c w lets f a) h on = tt
+goes-step g b p e q (between w) h on = tt
+goes-step g b p e q (back w r) h on = goes-recovered g w r
+goes-step g b p e q (failed c w i f a r) h on = tt
+goes-step g b p e q (lost c w i f a) h on = tt
+goes-step g b p e q (again xs) h on = tt
+
+goes-run : (g : Geometry) (b : Book) (p : Phase) (es : List Event) (q : Phase) → Run g p es q → Holds g b p → Goes p → Goes q
+goes-run g b p es q (stop p′) h on = on
+goes-run g b p es q (next {q = r} {e = e} {es = fs} s t) h on = goes-run g (tell b e) r fs q t (step-holds g b p e r s h) (goes-step g b p e r s h on)
+
+start-holds : (g : Geometry) (w : World) → Formatted g w → LiveAt g w (blank g)
+start-holds g w f = let s = formatted-live g w f in record { shape = s .0; world = s .1 }
+
+start-goes : (g : Geometry) (w : World) → Formatted g w → GoesOn w
+start-goes g w f i = absurd (false≢true (subst (λ (k : Work). isReclaim k ≡ true) (formatted-idle g w f) i))
+
+module _ (g : Geometry) (es : List Event) (w : World) (s : InSequence g es w) where
+  -- they are live, with the book of what happened
+  pub sequence-live : LiveAt g w (story (blank g) es)
+  sequence-live = run-holds g (blank g) (live (s .start)) es (live w) (s .run) (start-holds g (s .start) (s .formatted))
+
+  goes : GoesOn w
+  goes = goes-run g (blank g) (live (s .start)) es (live w) (s .run) (start-holds g (s .start) (s .formatted)) (start-goes g (s .start) (s .formatted))
+
+  -- ---- "in scan order, which on a layer's own array is write order"
+  module _ (c : Call) (f : fits c ≡ true) (a : Allowed g c w) where
+    ordered : InOrder w (plan c w .op) (exec c w .world)
+    ordered = call-orders w (story (blank g) es) (sequence-live .world) c f (subst (λ (h : Geometry). Allowed h c w) (sym (sequence-live .shape)) a)
+
+    -- the data page that a call programs is scanned after all others
+    pub scan-order-is-write-order : (k : ℕ) (new : List ℕ) → plan c w .op ≡ program k new → dataPage g k ≡ true → scanned (exec c w .world) ≡ scanned w ++ (entryOf k (spareOf new) ∷ [])
+    scan-order-is-write-order k new e d = subst (λ (o : Op). ScannedLast w o (exec c w .world)) e (ordered .last) (rw (sequence-live .shape) d)
+
+    -- and no call changes the order of those that stay scanned
+    pub scan-keeps-order : Sublist (scanned (exec c w .world)) (scanned w ++ added g (plan c w .op))
+    scan-keeps-order = subst (λ (h : Geometry). Sublist (scanned (exec c w .world)) (scanned w ++ added h (plan c w .op))) (sequence-live .shape) (ordered .rest)
+
+  -- ---- "in a sequence only the first can refuse"
+  -- the strides after the first, as the work under way tells
+  pub checkpoint-goes-on : isCheckpoint (w .state .work) ≡ true → refused (exec checkpoint w .answer) ≡ false
+  checkpoint-goes-on = checkpoint-not-refused w (story (blank g) es) (sequence-live .world)
+
+  pub reclaim-goes-on : isReclaim (w .state .work) ≡ true → refused (exec reclaim w .answer) ≡ false
+  reclaim-goes-on = reclaim-not-refused w (story (blank g) es) (sequence-live .world) goes
+
+  -- a stride that answers more leaves its work under way; and "zones change in the last"
+  pub checkpoint-under-way : exec checkpoint w .answer ≡ 255 → More isCheckpoint w (exec checkpoint w .world)
+  checkpoint-under-way = checkpoint-more w (story (blank g) es) (sequence-live .world)
+
+  pub reclaim-under-way : exec reclaim w .answer ≡ 255 → More isReclaim w (exec reclaim w .world)
+  reclaim-under-way = reclaim-more w (story (blank g) es) (sequence-live .world)
+
+  -- and no other call between two strides alters anything, but a recover
+  pub between-strides : (c : Call) → isIdle (w .state .work) ≡ false → another c (w .state .work) ≡ true → exec c w .world ≡ w
+  between-strides c = busy-same c w
+
+  -- ---- "Each stride picks anew, in a sequence the same block"
+  pub stride-picks-same : exec reclaim w .answer ≡ 255 → picked (exec reclaim w .world) ≡ picked w
+  stride-picks-same = copy-picks-same w (story (blank g) es) (sequence-live .world)
+
+-- ---- every read within a list of events answers as the book has it then
+abbrev pub ReadRight : Geometry → Book → Event → Type 0
+ReadRight g b (called (format h) n) = Unit {0}
+ReadRight g b (called (recover h) n) = Unit {0}
+ReadRight g b (called (begin id) n) = Unit {0}
+ReadRight g b (called (write id lpn d) n) = Unit {0}
+ReadRight g b (called (lone lpn d) n) = Unit {0}
+ReadRight g b (called (commit id) n) = Unit {0}
+ReadRight g b (called (abort id) n) = Unit {0}
+ReadRight g b (called (read lpn) n) = lpn < g .logical → n ≡ contentAnswer (pageOf b lpn)
+ReadRight g b (called checkpoint n) = Unit {0}
+ReadRight g b (called reclaim n) = Unit {0}
+ReadRight g b (cutIn c programs due turned) = Unit {0}
+ReadRight g b cutBetween = Unit {0}
+
+-- every read of the list
+abbrev pub ReadsRight : Geometry → Book → List Event → Type 0
+ReadsRight g b [] = Unit {0}
+ReadsRight g b (e ∷ es) = ReadRight g b e × ReadsRight g (tell b e) es
+
+read-answers : (lpn : ℕ) (w : World) → exec (read lpn) w .answer ≡ readAnswer lpn w
+unfolding exec plan carried
+read-answers lpn w = refl
+
+step-right : (g : Geometry) (b : Book) (p : Phase) (e : Event) (q : Phase) → Step g p e q → Holds g b p → ReadRight g b e
+step-right g b p e q (call (format h) w f a) s = tt
+step-right g b p e q (call (recover h) w f a) s = tt
+step-right g b p e q (call (begin id) w f a) s = tt
+step-right g b p e q (call (write id lpn d) w f a) s = tt
+step-right g b p e q (call (lone lpn d) w f a) s = tt
+step-right g b p e q (call (commit id) w f a) s = tt
+step-right g b p e q (call (abort id) w f a) s = tt
+step-right g b p e q (call (read lpn) w f a) s = λ l. read-answers lpn w ∙ live-reads w b (s .world) lpn (rw (s .shape) l) .answer
+step-right g b p e q (call checkpoint w f a) s = tt
+step-right g b p e q (call reclaim w f a) s = tt
+step-right g b p e q (cut c w lets f a) s = unfold cutEvent in tt
+step-right g b p e q (between w) s = tt
+step-right g b p e q (back w r) s = tt
+step-right g b p e q (failed c w i f a r) s = not-read c i (exec c w .answer)
+  where
+    not-read : (c : Call) → isRecovery c ≡ true → (n : ℕ) → ReadRight g b (called c n)
+    not-read (format h) i n = tt
+    not-read (recover h) i n = tt
+    not-read (begin id) i n = tt
+    not-read (write id lpn d) i n = tt
+    not-read (lone lpn d) i n = tt
+    not-read (commit id) i n = tt
+    not-read (abort id) i n = tt
+    not-read (read lpn) i n = absurd (false≢true i)
+    not-read checkpoint i n = tt
+    not-read reclaim i n = tt
+step-right g b p e q (lost c w i f a) s = tt
+step-right g b p e q (again xs) s = tt
+
+run-right : (g : Geometry) (b : Book) (p : Phase) (es : List Event) (q : Phase) → Run g p es q → Holds g b p → ReadsRight g b es
+run-right g b p es q (stop p′) h = tt
+run-right g b p es q (next {q = r} {e = e} {es = fs} s t) h = (step-right g b p e r s h, run-right g (tell b e) r fs q t (step-holds g b p e r s h))
+
+pub reads-right : (g : Geometry) (w : World) (es : List Event) (p : Phase) → Formatted g w → Run g (live w) es p → ReadsRight g (blank g) es
+reads-right g w es p f r = run-right g (blank g) (live w) es p r (start-holds g w f)
+
+-- ---- there are sequences, for every geometry in range
+pub some-sequence : (g : Geometry) → geometryOk g ≡ true → (w : World) × InSequence g [] w
+some-sequence g ok = let f = some-formatted g ok in (f .0, record { start = f .0; formatted = f .1; run = stop (live (f .0)) })

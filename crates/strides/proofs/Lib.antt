@@ -1,0 +1,3 @@
+pub mod Slides
+pub mod Carried
+pub mod Within
