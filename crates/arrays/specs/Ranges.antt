@@ -42,23 +42,9 @@ geometry-in g e =
       spared = leb-true _ _ e6;
     }
 
-pub same-geometry : (g h : Geometry) → sameGeometry g h ≡ true → g ≡ h
-unfolding sameGeometry
-same-geometry g h e =
-    let e1 = and-right (eqb (g .blocks) (h .blocks)) _ e in
-    let b = eqb-true (g .blocks) (h .blocks) (and-left (eqb (g .blocks) (h .blocks)) _ e) in
-    let p = eqb-true (g .pages) (h .pages) (and-left (eqb (g .pages) (h .pages)) _ e1) in
-    let l = eqb-true (g .logical) (h .logical) (and-right (eqb (g .pages) (h .pages)) _ e1) in
-    λ i. record { blocks = b i; pages = p i; logical = l i }
-
 pub geometry-same : (g : Geometry) → sameGeometry g g ≡ true
 unfolding sameGeometry
 geometry-same g = rw (eq-eqb (g .blocks) (g .blocks) refl, eq-eqb (g .pages) (g .pages) refl, eq-eqb (g .logical) (g .logical) refl)
-
--- the map pages of a checkpoint: one at least, four at most, and they hold every entry
-pub maps-some : (g : Geometry) → InGeometry g → 1 ≤ mapPages g
-unfolding mapPages
-maps-some g h = let a = h .logical-least in omega arith
 
 pub maps-few : (g : Geometry) → InGeometry g → mapPages g ≤ 4
 unfolding mapPages

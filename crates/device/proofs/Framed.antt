@@ -1,19 +1,20 @@
--- What refusal 1 leaves of geometry, lengths and map. Assumes nothing.
+-- What refusal 1 leaves: lengths and lists in range, and the page of each mapped logical page in the array. Assumes nothing.
 use Prim.Native.Nat.{ℕ, zero, suc, _+_, _*_, _≤_, _<_}
 use mathlib.Core.Path.{_≡_, refl, sym, _∙_}
-use mathlib.Core.Bool.{Bool, true, false, cond, not, _&&_}
+use mathlib.Core.Bool.{Bool, true, false, cond, not, _||_}
 use mathlib.Core.List.{List, [], _∷_}
 use lib.ListN.{length, getD}
 use lib.Dec.{eqb}
 use borrow.Author.Tests.{ne-eqb, not-true, not-false}
 use native.Mathlib.Omega.{arith}
 use Rattle.model.specs.Lists.{all, elem}
-use Rattle.model.specs.Geometry.{geometryOk, lengthsOk, dataPage, unmapped, entryOk, mapOk}
+use Rattle.model.specs.Geometry.{dataPage, unmapped, entryOk, mapOk}
 use Rattle.model.specs.World.{World}
-use Rattle.model.specs.Frame.{lentOk, frameOk}
+use Rattle.model.specs.Frame.{lentOk, frameOk, isIdle, gate}
 use Rattle.model.specs.declared.Geometry.{Geometry}
 use Rattle.arrays.specs.Tests.{and-left, and-right, heads-all, all-at}
-use Rattle.arrays.specs.Ranges.{InGeometry, geometry-in, InLengths, lengths-in, data-page-fits}
+use Rattle.arrays.specs.Ranges.{data-page-fits}
+use Rattle.change.proofs.Framed.{InFrame, frame-in}
 
 -- an element of a list, whatever stands for those past its end
 pub getD-same : (l : List ℕ) (i d e : ℕ) → i < length l → getD l i d ≡ getD l i e
@@ -45,18 +46,18 @@ frame-failed w ok e t = sym e ∙ not-true ok t
 pub frame-passed : (w : World) (ok : Bool) → ok ≡ frameOk w → not ok ≡ false → frameOk w ≡ true
 frame-passed w ok e t = sym e ∙ not-false ok t
 
+-- what the gate tells where it does not refuse
+gate-one-of : (f i : Bool) → _≡_ {A = ℕ} (cond f (cond i 0 17) 1) 0 → f ≡ true
+gate-one-of true i e = refl
+gate-one-of false i e = absurd (omega (arith, e))
+
+pub gate-passed : (w : World) (own : Bool) (n : ℕ) → n ≡ gate own w → n ≡ 0 → frameOk w ≡ true
+unfolding gate
+gate-passed w own n g z = gate-one-of (frameOk w) (isIdle (w .state .work) || own) (sym g ∙ z)
+
 module _ (w : World) (f : frameOk w ≡ true) where
-  lent : lentOk (w .state .geometry) w ≡ true
-  unfolding frameOk
-  lent = and-left _ _ f
-
-  pub framed-geometry : InGeometry (w .state .geometry)
-  unfolding lentOk
-  framed-geometry = geometry-in _ (and-left _ _ lent)
-
-  pub framed-lengths : InLengths (w .state .geometry) (w .array) (w .map) (w .hold)
-  unfolding lentOk
-  framed-lengths = lengths-in _ _ _ _ (and-right (geometryOk (w .state .geometry)) _ lent)
+  pub framed : InFrame (w .state) (w .array) (w .map) (w .hold)
+  framed = frame-in (w .state) (w .array) (w .map) (w .hold) f
 
   framed-map : mapOk (w .state .geometry) (w .map) ≡ true
   unfolding frameOk
@@ -67,10 +68,10 @@ module _ (w : World) (f : frameOk w ≡ true) where
     mapped-page : dataPage (w .state .geometry) (getD (w .map) lpn 0) ≡ true
     unfolding mapOk
     mapped-page =
-        let n : length (w .map) ≡ w .state .geometry .logical = framed-lengths .map in
+        let n : length (w .map) ≡ w .state .geometry .logical = framed .map in
         let a : all (mapped (w .state .geometry)) (w .map) ≡ true = heads-all _ _ (mapped-of (w .state .geometry)) [] (w .map) framed-map in
         mapped-is (w .state .geometry) _ (all-at (mapped (w .state .geometry)) (w .map) lpn 0 a (omega arith)) u
 
     -- its page lies in the array
     pub mapped-fits : getD (w .map) lpn 0 * 528 + 528 ≤ length (w .array)
-    mapped-fits = data-page-fits (w .state .geometry) (w .array) (framed-lengths .array) _ mapped-page
+    mapped-fits = data-page-fits (w .state .geometry) (w .array) (framed .ready .bytes) _ mapped-page

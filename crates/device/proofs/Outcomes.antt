@@ -1,11 +1,13 @@
--- What comes of a call, from its plan: a refusal leaves the world as it was, and begin, abort and a commit of nothing all but the state. Assumes nothing.
-use Prim.Native.Nat.{ℕ}
+-- What comes of a call, from its plan: a refusal leaves the world as it was, a plan that is done is carried out. Assumes nothing.
+use Prim.Native.Nat.{ℕ, _+_, _≤_, _<_}
 use mathlib.Core.Path.{_≡_, refl, sym, _∙_}
-use mathlib.Core.Bool.{Bool, true, false, cond, _||_}
-use lib.Dec.{eqb}
-use borrow.Author.Tests.{ne-eqb}
+use mathlib.Core.Bool.{Bool, true, false, cond, not, _&&_, _||_}
+use mathlib.Core.List.{List}
+use lib.Dec.{eqb, leb, ltb}
+use borrow.Author.Tests.{leb-false, lt-ltb, le-ltb, ne-eqb}
+use native.Mathlib.Omega.{arith}
 use Rattle.model.specs.Answers.{number}
-use Rattle.model.specs.World.{World, none, refuse, applyOp}
+use Rattle.model.specs.World.{World, Plan, none, refuse, applyOp}
 use Rattle.model.specs.Frame.{frameOk, isIdle, gate}
 use Rattle.model.specs.Commands.{Call, Outcome, plan, carried, exec}
 use Rattle.model.specs.declared.Answer.{Answer}
@@ -46,3 +48,24 @@ module _ (w : World) (c : Call) (r : Reply) where
   pub only-state : (s : State) → r ≡ replied Done s → plan c w ≡ record { answer = 0; op = none; map = w .map; hold = w .hold; state = s } → told w (number (r .answer)) (r .device .state) ≡ exec c w
   unfolding exec carried applyOp
   only-state s e p = rw (e, p)
+
+  -- done, by a plan that was carried out
+  pub carries : (p : Plan) (xs map hold : List ℕ) (s : State) → r ≡ replied Done s → plan c w ≡ p
+      → _≡_ {A = Outcome} (record { answer = 0; world = record { array = xs; map = map; hold = hold; state = s } }) (carried p w)
+      → _≡_ {A = Outcome} (record { answer = number (r .answer); world = record { array = xs; map = map; hold = hold; state = r .device .state } }) (exec c w)
+  unfolding exec
+  carries p xs map hold s e q d = rw (e, q) d
+
+-- ---- refusals 12 and 13
+pub version-spent : (v : ℕ) → 4294967294 ≤ v → ltb 4294967294 (v + 1) ≡ true
+version-spent v h = lt-ltb 4294967294 (v + 1) (omega arith)
+
+pub version-left : (v : ℕ) → v < 4294967294 → ltb 4294967294 (v + 1) ≡ false
+version-left v h = le-ltb 4294967294 (v + 1) (omega arith)
+
+-- a page must be programmed, and there are clean ones
+pub held-clean : (n clean pages : ℕ) (short : Bool) → short ≡ (not (eqb n 0) && leb clean pages) → short ≡ false → 0 < n → pages < clean
+held-clean n clean pages short e f h = leb-false clean pages (rw (ne-eqb n 0 (omega arith)) at (sym e ∙ f))
+
+pub zone-clean : (clean pages : ℕ) (short : Bool) → short ≡ leb clean pages → short ≡ false → pages < clean
+zone-clean clean pages short e f = leb-false clean pages (sym e ∙ f)

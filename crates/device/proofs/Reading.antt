@@ -14,7 +14,7 @@ use Rattle.model.specs.Frame.{frameOk, gate}
 use Rattle.model.specs.Transactions.{readAnswer, readPart}
 use Rattle.model.specs.Commands.{Outcome, plan, carried, exec, read}
 use Rattle.frame.proofs.Gates.{gate-bad, gate-own}
-use Rattle.device.proofs.Framed.{getD-same, framed-lengths}
+use Rattle.device.proofs.Framed.{getD-same, framed}
 use Rattle.device.proofs.Outcomes.{told}
 
 module _ (w : World) (lpn : ℕ) where
@@ -34,7 +34,7 @@ module _ (w : World) (lpn : ℕ) where
 
     module _ (l : lpn < w .state .geometry .logical) where
       entry : getD (w .map) lpn unmapped ≡ getD (w .map) lpn 0
-      entry = getD-same (w .map) lpn unmapped 0 (let n = framed-lengths w f .map in omega arith)
+      entry = getD-same (w .map) lpn unmapped 0 (let n = framed w f .map in omega arith)
 
       pub read-never : getD (w .map) lpn 0 ≡ unmapped → readAnswer lpn w ≡ 14
       unfolding readAnswer

@@ -1,11 +1,13 @@
 // The ten commands. A device goes in and comes back, with the array, the map and the hold lent beside it.
 // Nothing is required of a caller: whatever is handed in, a command answers as document 01 says.
 ghost use mathlib.Core.Path.{_≡_};
-ghost use mathlib.Core.Bool.{cond};
-ghost use lib.Dec.{eqb};
+ghost use mathlib.Core.Bool.{cond, not, _&&_};
+ghost use lib.Dec.{eqb, leb};
 ghost use Rattle.model.specs.Answers.{number};
+ghost use Rattle.model.specs.Zones.{availableOf, cleanIn};
 ghost use Rattle.model.specs.Commands.{Outcome, exec, begin, write, lone, commit, abort, read};
 ghost use Rattle.model.specs.Transactions.{readPart};
+ghost use Rattle.zones.specs.Judging.{Ready};
 ghost use Rattle.device.specs.Replies.{replied};
 use model::Answer;
 use model::Map;
@@ -42,6 +44,17 @@ fn refused(n: u8, s: State) -> Reply
         return answered(Answer::Refused(Refusal::Busy), s);
     }
     answered(Answer::Refused(Refusal::BadFrame), s)
+}
+
+/// Whether a place with n pages must program the one it holds and the zone is short.
+fn held_short(s: State, array: &[u8], n: u8) -> bool
+    requires { ⌜ Ready (s .geometry) (now array) (s .zones) ⌝ }
+    ensures { λ r. ⌜ r ≡ (not (eqb n 0) && leb (cleanIn (now (array .entry)) (s .geometry .pages) (availableOf (s .zones))) (s .geometry .pages)) ⌝ }
+{
+    if n == 0 {
+        return false;
+    }
+    change::zone_short(s, array)
 }
 
 impl Device {
@@ -107,10 +120,8 @@ impl Device {
         if p.count >= State::LONGEST_CHANGE {
             return answered(Answer::Refused(Refusal::TooLong), s);
         }
-        if p.count != 0 {
-            if change::zone_short(s, array) {
-                return answered(Answer::Refused(Refusal::ZoneShort), s);
-            }
+        if held_short(s, array, p.count) {
+            return answered(Answer::Refused(Refusal::ZoneShort), s);
         }
         let t = change::write_in(s, array, map, hold, i, lpn, data);
         answered(Answer::Done, t)

@@ -19,6 +19,7 @@ use Rattle.model.specs.declared.Zones.{Zones}
 use Rattle.arrays.specs.Ranges.{InGeometry, geometry-in}
 use Rattle.front.specs.FormatStrides.{Laid, Fresh, laid-start, laid-erase, laid-map, laid-last}
 
+-- three blocks available, three free
 unfoldable someZones : Zones
 someZones = zonesOf (2 ∷ 3 ∷ 4 ∷ []) [] (5 ∷ 6 ∷ 7 ∷ []) 5
 
@@ -37,6 +38,7 @@ torn = replicate 528 254
 unfoldable frontOf : List ℕ → List ℕ → List ℕ → List ℕ
 frontOf a b c = mapOf 1 ++ (zoneOf 1 ++ (a ++ (b ++ (c ++ replicate (11 * 528) 255))))
 
+-- an erased page
 unfoldable erased : List ℕ
 erased = replicate 528 255
 

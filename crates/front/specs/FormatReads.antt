@@ -19,16 +19,15 @@ use Rattle.model.specs.declared.Geometry.{Geometry}
 use Rattle.model.specs.declared.State.{State}
 use Rattle.arrays.specs.Tests.{and-both}
 use Rattle.arrays.specs.Ranges.{InGeometry}
-use Rattle.front.specs.Base.{lent-geometry}
-use Rattle.front.specs.CheckpointStrides.{gate-own}
+use Rattle.arrays.specs.Frame.{lent-geometry, gate-own}
 use Rattle.front.specs.FormatCalls.{Formats, formatting, stateUnder, blank-map-ok, formats-stride}
 
 -- ---- refusal 1 finds nothing in the state of a format
-pub places-free : (g : Geometry) → placesOk g (replicate 8 freePlace) ≡ true
+free-places-ok : (g : Geometry) → placesOk g (replicate 8 freePlace) ≡ true
 unfolding placesOk allTails placeOk badId alone all
-places-free g = refl
+free-places-ok g = refl
 
-pub zones-none : (g : Geometry) → InGeometry g → zonesOk g noZones ≡ true
+zones-none : (g : Geometry) → InGeometry g → zonesOk g noZones ≡ true
 unfolding zonesOk zoneListsOk allHeads rising allTails dataBlock
 zones-none g h = let b = h .blocks-least in rw (le-leb 0 (g .blocks - 2) (omega arith), lt-ltb 2 (g .blocks) (omega arith))
 
@@ -39,9 +38,9 @@ frame-under g w k f =
     and-both (geometryOk g && lengthsOk g (w .array) (w .map) (w .hold)) _ l
     (and-both (mapOk g (w .map)) _ (rw (f .map) (blank-map-ok g))
     (and-both (zonesOk g noZones) _ (zones-none g (lent-geometry g w l))
-    (and-both (placesOk g (replicate 8 freePlace)) _ (places-free g) (formats-stride g w k f))))
+    (and-both (placesOk g (replicate 8 freePlace)) _ (free-places-ok g) (formats-stride g w k f))))
 
-pub formats-frame : (g : Geometry) (w : World) (k : ℕ) → Formats g w k → frameOk w ≡ true
+formats-frame : (g : Geometry) (w : World) (k : ℕ) → Formats g w k → frameOk w ≡ true
 formats-frame g w k f =
     subst (λ (s : State). frameOk (record { array = w .array; map = w .map; hold = w .hold; state = s }) ≡ true) (sym (f .state)) (frame-under g w k f)
 
@@ -60,7 +59,7 @@ unmapped-answer : (w : World) (lpn : ℕ) → frameOk w ≡ true → lpn < w .st
 unfolding readAnswer
 unmapped-answer w lpn e l m = rw (gate-own w e, lt-leb (w .state .geometry .logical) lpn l, m)
 
-pub unmapped-reads : (w : World) (lpn : ℕ) → frameOk w ≡ true → lpn < w .state .geometry .logical → getD (w .map) lpn unmapped ≡ unmapped → ReadsAs w lpn never
+unmapped-reads : (w : World) (lpn : ℕ) → frameOk w ≡ true → lpn < w .state .geometry .logical → getD (w .map) lpn unmapped ≡ unmapped → ReadsAs w lpn never
 unfolding readPart
 unmapped-reads w lpn e l m = let a = unmapped-answer w lpn e l m in record { answer = a; bytes = rw a refl }
 

@@ -34,7 +34,7 @@ stateOf g es c =
 
 module _ (g : Geometry) (xs : List ℕ) (c : Saved) (f : Front g xs c) where
   -- the pages to scan
-  pub front-scan : scannedAt g xs (c .page) ≡ scanOf xs (g .pages) (c .zones)
+  front-scan : scannedAt g xs (c .page) ≡ scanOf xs (g .pages) (c .zones)
   front-scan = written-scan g xs c (f .fits) (f .written)
 
   -- the state
@@ -70,15 +70,15 @@ module _ (g : Geometry) (xs : List ℕ) (c : Saved) (f : Front g xs c) where
     front-redone = rw (written-floor g xs c (f .fits) (f .written), front-scan, written-map g xs c (f .fits) (f .written) sane)
 
     -- refusal 3 passes
-    pub front-loads : loadOk g (entriesAt g xs (c .page)) (zonesAt g xs (c .page)) ≡ true
+    front-loads : loadOk g (entriesAt g xs (c .page)) (zonesAt g xs (c .page)) ≡ true
     front-loads = written-loads g xs c (f .fits) (f .written) sane
 
 -- the plan of a recover by checkpoint c: it can be refused only for a bad page
-unfoldable pub recoverBy : Geometry → World → Saved → Plan
+unfoldable recoverBy : Geometry → World → Saved → Plan
 recoverBy g w c = cond (not (pagesGood (g .logical) (scanOf (w .array) (g .pages) (c .zones)))) (refuse w 4) (recoverPlan g (c .page) w)
 
 -- a recover goes by the newest checkpoint
-pub recover-front : (g : Geometry) (w : World) (c : Saved) → Front g (w .array) c → Sane g c → lentOk g w ≡ true → planRecover g w ≡ recoverBy g w c
+recover-front : (g : Geometry) (w : World) (c : Saved) → Front g (w .array) c → Sane g c → lentOk g w ≡ true → planRecover g w ≡ recoverBy g w c
 unfolding planRecover recoverFrom recoverBy
 recover-front g w c f sane l = rw (l, f .found) (rw (front-loads g (w .array) c f sane, front-scan g (w .array) c f))
 

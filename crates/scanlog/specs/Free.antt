@@ -17,29 +17,30 @@ use Rattle.arrays.specs.Tests.{Is, eqb-cases}
 use Rattle.arrays.specs.Pages.{BlockFits}
 use Rattle.arrays.specs.Ranges.{block-least, block-most}
 use Rattle.arrays.specs.Used.{used-erase}
+use Rattle.arrays.specs.ZoneLists.{zonesOf-available, zonesOf-unavailable, zonesOf-free, zonesOf-ok}
 use Rattle.scanlog.specs.Sublist.{Sublist, sub-refl, sub-trans}
-use Rattle.scanlog.specs.Occ.{occ, occ-yes, occ-no, occ-append, occ-sub, Distinct, pigeon}
+use Rattle.scanlog.specs.Occ.{occ, occ-yes, occ-no, occ-append, Distinct, pigeon}
 use Rattle.scanlog.specs.Rising.{insert-occ, insert-rising, insert-sub}
-use Rattle.scanlog.specs.Shape.{shape, shape-ok, Unlisted, zonesOf-available, zonesOf-unavailable, zonesOf-free, zonesOf-ok}
+use Rattle.scanlog.specs.Shape.{shape, shape-ok, Unlisted}
 use Rattle.scanlog.specs.Order.{Order, each-sub, each-is, is-each}
 use Rattle.scanlog.specs.Tidy.{Tidy, tidy-erase, scan-erase}
 
 -- ---- the lists of the zones with block b free
 module _ (z : Zones) (b : ℕ) where
-  pub freed-available : availableOf (freed z b) ≡ availableOf z
+  freed-available : availableOf (freed z b) ≡ availableOf z
   unfolding freed
   freed-available = zonesOf-available (availableOf z) (unavailableOf z) (insert b (freeOf z)) (z .pointer)
 
-  pub freed-unavailable : unavailableOf (freed z b) ≡ unavailableOf z
+  freed-unavailable : unavailableOf (freed z b) ≡ unavailableOf z
   unfolding freed
   freed-unavailable = zonesOf-unavailable (availableOf z) (unavailableOf z) (insert b (freeOf z)) (z .pointer)
 
-  pub freed-free : freeOf (freed z b) ≡ insert b (freeOf z)
+  freed-free : freeOf (freed z b) ≡ insert b (freeOf z)
   unfolding freed
   freed-free = zonesOf-free (availableOf z) (unavailableOf z) (insert b (freeOf z)) (z .pointer)
 
   -- the same is scanned
-  pub freed-scan : (xs : List ℕ) (p : ℕ) → scanOf xs p (freed z b) ≡ scanOf xs p z
+  freed-scan : (xs : List ℕ) (p : ℕ) → scanOf xs p (freed z b) ≡ scanOf xs p z
   unfolding scanOf
   freed-scan xs p = rw (freed-available, freed-unavailable)
 
@@ -56,7 +57,7 @@ module _ (g : Geometry) (z : Zones) (b : ℕ) (none : Unlisted z b) (inside : da
   none-listed : occ b (availableOf z ++ (unavailableOf z ++ freeOf z)) ≡ 0
   none-listed = omega (arith, occ-append b (availableOf z) (unavailableOf z ++ freeOf z), occ-append b (unavailableOf z) (freeOf z))
 
-  pub freed-ok : zonesOk g z ≡ true → zonesOk g (freed z b) ≡ true
+  freed-ok : zonesOk g z ≡ true → zonesOk g (freed z b) ≡ true
   unfolding freed
   freed-ok h =
       let a = availableOf z in
@@ -134,7 +135,3 @@ module _ (z₀ z : Zones) (h : Grown z₀ z) where
     order = subst (Order xs (g .pages)) (sym (h .available)) (t .order);
     blank = each-sub (λ (c : ℕ). usedIn xs (g .pages) c ≡ 0) (h .free) (t .blank);
   }
-
-  -- a block in none of the live lists is in none of the checkpoint's
-  pub grown-unlisted : (b : ℕ) → Unlisted z b → Unlisted z₀ b
-  grown-unlisted b n = omega (arith, n, ap (occ b) (h .available), ap (occ b) (h .unavailable), occ-sub b (h .free))

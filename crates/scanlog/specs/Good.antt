@@ -61,9 +61,6 @@ pub record Plain (logical : ℕ) (e : Entry) : Type 0 where
 abbrev pub dataEntry : ℕ → ℕ → ℕ → ℕ → ℕ → Entry
 dataEntry k lpn cnt id ver = record { ppn = k; lpn = lpn; cnt = cnt; id = id; ver = ver; kind = 0; reserved = 0 }
 
-pub data-plain : (logical k lpn cnt id ver : ℕ) → lpn < logical → id ≢ 4294967295 → ver ≢ 4294967295 → Plain logical (dataEntry k lpn cnt id ver)
-data-plain logical k lpn cnt id ver l i v = record { kind = refl; reserved = refl; lpn = l; id = i; ver = v }
-
 new-ver : (v : ℕ) (es : List Entry) → top es < v → all (λ (x : Entry). not (eqb (x .ver) v)) es ≡ true
 unfolding all top
 new-ver v [] h = refl

@@ -3,7 +3,6 @@ pub mod Occ
 pub mod Rising
 pub mod Log
 pub mod Good
-pub mod Gone
 pub mod Logged
 pub mod Open
 pub mod Shape

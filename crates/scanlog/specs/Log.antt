@@ -37,11 +37,11 @@ Apart e [] = Unit {0}
 Apart e (y ∷ ys) = (y .cnt ≢ 0 → y .id ≢ 0 → y .id ≢ e .id) × Apart e ys
 
 -- what page y commits to version v in a scan
-abbrev pub commits : List Entry → ℕ → Entry → List Entry
+abbrev commits : List Entry → ℕ → Entry → List Entry
 commits xs v y = keep (eqb (y .ver) v && committed xs y) (pagesOf xs y)
 
 -- a mark sees two scans alike if its identifier has the same entries in both
-pub alike : (xs zs : List Entry) (v : ℕ) (y : Entry) → (y .cnt ≢ 0 → y .ver ≡ v → y .id ≢ 0 → ofId (y .id) xs ≡ ofId (y .id) zs) → commits xs v y ≡ commits zs v y
+alike : (xs zs : List Entry) (v : ℕ) (y : Entry) → (y .cnt ≢ 0 → y .ver ≡ v → y .id ≢ 0 → ofId (y .id) xs ≡ ofId (y .id) zs) → commits xs v y ≡ commits zs v y
 unfolding committed pagesOf
 alike xs zs v y h = go (eqb-cases (y .cnt) 0) (eqb-cases (y .ver) v) (eqb-cases (y .id) 0)
   where
@@ -52,7 +52,7 @@ alike xs zs v y h = go (eqb-cases (y .cnt) 0) (eqb-cases (y .ver) v) (eqb-cases 
     go (inr c) (inl w) (inr z) = rw (c .1, w .1, z .1, h (c .0) (w .0) (z .0))
 
 -- no mark, or one of another version, commits nothing to version v
-pub commits-none : (xs : List Entry) (v : ℕ) (y : Entry) → (y .cnt ≡ 0) ⊎ (y .ver ≢ v) → commits xs v y ≡ []
+commits-none : (xs : List Entry) (v : ℕ) (y : Entry) → (y .cnt ≡ 0) ⊎ (y .ver ≢ v) → commits xs v y ≡ []
 unfolding committed
 commits-none xs v y (inl z) = rw (eq-eqb (y .cnt) 0 z, and-false (eqb (y .ver) v))
 commits-none xs v y (inr n) = rw (ne-eqb (y .ver) v n)
@@ -63,7 +63,7 @@ txns-same xs e v [] a = refl
 txns-same xs e v (y ∷ ys) a =
     rw (alike (xs ++ (e ∷ [])) xs v y (λ c w z. ofId-other (y .id) xs e (λ q. a .0 c z (sym q))), txns-same xs e v ys (a .1))
 
-pub txns-append : (xs : List Entry) (v : ℕ) (ys zs : List Entry) → txnsIn xs v (ys ++ zs) ≡ txnsIn xs v ys ++ txnsIn xs v zs
+txns-append : (xs : List Entry) (v : ℕ) (ys zs : List Entry) → txnsIn xs v (ys ++ zs) ≡ txnsIn xs v ys ++ txnsIn xs v zs
 unfolding txnsIn
 txns-append xs v [] zs = refl
 txns-append xs v (y ∷ ys) zs = rw (txns-append xs v ys zs) (sym (append-assoc (commits xs v y) (txnsIn xs v ys) (txnsIn xs v zs)))
@@ -77,19 +77,19 @@ txns-quiet : (xs : List Entry) (e : Entry) (v : ℕ) → Apart e xs → (e .cnt 
 txns-quiet xs e v a q = txns-one xs e v a ∙ rw (commits-none (xs ++ (e ∷ [])) v e q) (append-nil (txnsIn xs v xs))
 
 -- above the highest version nothing is committed
-pub txns-above : (xs : List Entry) (v : ℕ) (ys : List Entry) → top ys < v → txnsIn xs v ys ≡ []
+txns-above : (xs : List Entry) (v : ℕ) (ys : List Entry) → top ys < v → txnsIn xs v ys ≡ []
 unfolding txnsIn top
 txns-above xs v [] h = refl
 txns-above xs v (y ∷ ys) h = rw (commits-none xs v y (inr (omega arith)), txns-above xs v ys (omega arith))
 
 -- ---- spans of versions
 -- two scans that agree on the versions of a span
-pub span-same : (xs ys : List Entry) (floor k : ℕ) → ((v : ℕ) → floor < v → v ≤ floor + k → txnsIn ys v ys ≡ txnsIn xs v xs) → span ys floor k ≡ span xs floor k
+span-same : (xs ys : List Entry) (floor k : ℕ) → ((v : ℕ) → floor < v → v ≤ floor + k → txnsIn ys v ys ≡ txnsIn xs v xs) → span ys floor k ≡ span xs floor k
 unfolding span
 span-same xs ys floor zero h = refl
 span-same xs ys floor (suc k) h = rw (span-same xs ys floor k (λ v a b. h v a (omega arith)), h (floor + suc k) (omega arith) (omega arith))
 
-pub span-add : (xs : List Entry) (floor j k : ℕ) → span xs floor (j + k) ≡ span xs floor j ++ span xs (floor + j) k
+span-add : (xs : List Entry) (floor j k : ℕ) → span xs floor (j + k) ≡ span xs floor j ++ span xs (floor + j) k
 unfolding span
 span-add xs floor j zero = rw (add-zero j) (sym (append-nil (span xs floor j)))
 span-add xs floor j (suc k) =
@@ -97,20 +97,20 @@ span-add xs floor j (suc k) =
     rw (add-suc j k) (rw (span-add xs floor j k, e) (append-assoc (span xs floor j) (span xs (floor + j) k) (txnsIn xs (floor + j + suc k) xs)))
 
 -- a span with nothing in it
-pub span-empty : (xs : List Entry) (floor k : ℕ) → ((v : ℕ) → floor < v → v ≤ floor + k → txnsIn xs v xs ≡ []) → span xs floor k ≡ []
+span-empty : (xs : List Entry) (floor k : ℕ) → ((v : ℕ) → floor < v → v ≤ floor + k → txnsIn xs v xs ≡ []) → span xs floor k ≡ []
 unfolding span
 span-empty xs floor zero h = refl
 span-empty xs floor (suc k) h = rw (span-empty xs floor k (λ v a b. h v a (omega arith)), h (floor + suc k) (omega arith) (omega arith))
 
 -- any span that reaches past the top is all that is applied
-pub applied-long : (xs : List Entry) (floor k : ℕ) → top xs ≤ floor + k → span xs floor k ≡ applied floor xs
+applied-long : (xs : List Entry) (floor k : ℕ) → top xs ≤ floor + k → span xs floor k ≡ applied floor xs
 unfolding applied
 applied-long xs floor k h =
     let e : k ≡ (top xs - floor) + (k - (top xs - floor)) = omega arith in
     ap (span xs floor) e ∙ span-add xs floor (top xs - floor) (k - (top xs - floor))
     ∙ rw (span-empty xs (floor + (top xs - floor)) (k - (top xs - floor)) (λ v a b. txns-above xs v xs (omega arith))) (append-nil (span xs floor (top xs - floor)))
 
-pub top-append : (xs ys : List Entry) → top (xs ++ ys) ≡ max (top xs) (top ys)
+top-append : (xs ys : List Entry) → top (xs ++ ys) ≡ max (top xs) (top ys)
 unfolding top
 top-append [] ys = omega arith
 top-append (x ∷ xs) ys = omega (arith, top-append xs ys)

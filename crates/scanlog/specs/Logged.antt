@@ -8,7 +8,6 @@ use native.Mathlib.Omega.{arith}
 use mathlib.Core.List.{List, [], _∷_, _++_}
 use lib.ListN.{length}
 use lib.Dec.{eqb}
-use borrow.Author.Tests.{eqb-false}
 use Rattle.model.specs.Lists.{any, allHeads, those}
 use Rattle.model.specs.Geometry.{enterPage}
 use Rattle.model.specs.Zones.{Entry, onPages}
@@ -65,15 +64,7 @@ logged-saved logical floor saved es fs map version h s = record {
 }
 
 -- ---- identifiers
--- an identifier on no page, never used or with no page left in the scan, has no mark and no pages: it may be used again
-pub off-mark : (i : ℕ) (es : List Entry) → onPages i es ≡ false → NoMark i es
-unfolding onPages any
-off-mark i [] h = tt
-off-mark i (e ∷ es) h = (
-  (λ q. absurd (eqb-false (e .id) i (or-false-left (eqb (e .id) i) (any (λ (e : Entry). eqb (e .id) i) es) h) q)),
-  off-mark i es (or-false-right (eqb (e .id) i) (any (λ (e : Entry). eqb (e .id) i) es) h),
-)
-
+-- an identifier on no page, never used or with no page left in the scan, has no pages: it may be used again
 pub off-none : (i : ℕ) (es : List Entry) → onPages i es ≡ false → ofId i es ≡ []
 unfolding onPages any ofId those
 off-none i [] h = refl

@@ -1,24 +1,22 @@
 -- Open changes in the log: the programmed pages of an active place are the entries of its identifier, in write order and unmarked; each command
 -- keeps that, and a commit enters them in the map as redoing its transaction does.
 use mathlib.Core.Path.{_≡_, refl, sym, ap, _∙_, subst}
-use mathlib.Core.Logic.{_⊎_, inl, inr, _≢_}
-use mathlib.Core.Bool.{Bool, true, false, not, _&&_}
+use mathlib.Core.Logic.{inl, inr, _≢_}
+use mathlib.Core.Bool.{true, false}
 use Prim.Native.Nat.{ℕ, zero, suc, _+_, _-_, _≤_, _<_}
 use native.Mathlib.Omega.{arith}
 use mathlib.Core.List.{List, [], _∷_, _++_}
 use lib.ListN.{length, getD, set, length-set, length-append}
 use lib.Seq.{getD-set-same, getD-set-other}
-use lib.Dec.{eqb}
-use borrow.Author.Tests.{eqb-true, eqb-false, ne-eqb, not-true, eq-eqb}
-use Rattle.model.specs.Lists.{all, any, allTails, those}
+use borrow.Author.Tests.{ne-eqb, eq-eqb}
+use Rattle.model.specs.Lists.{those}
 use Rattle.model.specs.Geometry.{enterPage}
 use Rattle.model.specs.Zones.{Entry, onPages, hasId, active}
 use Rattle.model.specs.Recovery.{ofId, enter}
-use Rattle.model.specs.Frame.{noPlace, placeOk, alone, placesOk}
+use Rattle.model.specs.Frame.{noPlace}
 use Rattle.model.specs.Transactions.{heldPage, begun, written, entered}
-use Rattle.model.specs.declared.Geometry.{Geometry}
 use Rattle.model.specs.declared.Place.{Place}
-use Rattle.arrays.specs.Tests.{Is, eqb-cases, and-left, and-right, or-cases, all-at, or-left, or-right}
+use Rattle.arrays.specs.Tests.{Is, eqb-cases, any-at}
 use Rattle.scanlog.specs.Log.{NoMark, ofId-same, enter-append}
 use Rattle.scanlog.specs.Good.{dataEntry}
 use Rattle.scanlog.specs.Logged.{off-none}
@@ -37,7 +35,7 @@ laid id lpns ppns (suc n) = laid id lpns ppns n ++ (openEntry id (getD ppns n 0)
 abbrev pub Open : Place → List Entry → Type 0
 Open p es = ofId (p .id) es ≡ laid (p .id) (p .lpns) (p .ppns) (p .count - 1)
 
-pub laid-zero : (id : ℕ) (lpns ppns : List ℕ) → laid id lpns ppns 0 ≡ []
+laid-zero : (id : ℕ) (lpns ppns : List ℕ) → laid id lpns ppns 0 ≡ []
 unfolding laid
 laid-zero id lpns ppns = refl
 
@@ -49,7 +47,7 @@ entered-suc : (m lpns ppns : List ℕ) (n : ℕ) → entered m lpns ppns (suc n)
 unfolding entered
 entered-suc m lpns ppns n = refl
 
-pub laid-length : (id : ℕ) (lpns ppns : List ℕ) (n : ℕ) → length (laid id lpns ppns n) ≡ n
+laid-length : (id : ℕ) (lpns ppns : List ℕ) (n : ℕ) → length (laid id lpns ppns n) ≡ n
 unfolding laid
 laid-length id lpns ppns zero = refl
 laid-length id lpns ppns (suc n) =
@@ -64,7 +62,7 @@ laid-same id lpns ppns lpns′ ppns′ (suc n) h k =
     rw (laid-same id lpns ppns lpns′ ppns′ n (λ i l. h i (omega arith)) (λ i l. k i (omega arith)), h n (omega arith), k n (omega arith))
 
 -- entered in a map, they are what a commit enters
-pub laid-entered : (m : List ℕ) (id : ℕ) (lpns ppns : List ℕ) (n : ℕ) → enter m (laid id lpns ppns n) ≡ entered m lpns ppns n
+laid-entered : (m : List ℕ) (id : ℕ) (lpns ppns : List ℕ) (n : ℕ) → enter m (laid id lpns ppns n) ≡ entered m lpns ppns n
 unfolding laid entered enter
 laid-entered m id lpns ppns zero = refl
 laid-entered m id lpns ppns (suc n) =
@@ -172,34 +170,7 @@ opens-set ps es fs i p o h k j l = go (eqb-cases j i)
 pub opens-same : (ps : List Place) (es fs : List Entry) → Opens ps es → ((j : ℕ) → j < length ps → getD ps j noPlace .id ≢ 0 → ofId (getD ps j noPlace .id) fs ≡ ofId (getD ps j noPlace .id) es) → Opens ps fs
 opens-same ps es fs o k j l n = k j l n ∙ o j l n
 
--- a place that is not free shares its identifier with none after it
-later-apart : (p : Place) (ps : List Place) → alone p ps ≡ true → (m : ℕ) → m < length ps → p .id ≢ 0 → getD ps m noPlace .id ≢ p .id
-unfolding alone
-later-apart p ps h m b w = pick (or-cases (eqb (p .id) 0) (all (λ (q : Place). not (hasId (p .id) q)) ps) h)
-  where
-    pick : (eqb (p .id) 0 ≡ true) ⊎ (all (λ (q : Place). not (hasId (p .id) q)) ps ≡ true) → getD ps m noPlace .id ≢ p .id
-    pick (inl e) = absurd (w (eqb-true (p .id) 0 e))
-    pick (inr e) = eqb-false (getD ps m noPlace .id) (p .id) (not-true _ (all-at (λ (q : Place). not (hasId (p .id) q)) ps m noPlace e b))
-
--- two places that are not free have different identifiers
-pub places-apart : (g : Geometry) (ps : List Place) → placesOk g ps ≡ true → (i j : ℕ) → i < length ps → j < length ps → i ≢ j → getD ps i noPlace .id ≢ 0
-    → getD ps j noPlace .id ≢ getD ps i noPlace .id
-unfolding placesOk allTails
-places-apart g [] h i j l k n z = absurd (omega arith)
-places-apart g (p ∷ ps) h zero zero l k n z = absurd (n refl)
-places-apart g (p ∷ ps) h zero (suc j) l k n z = later-apart p ps (and-right (placeOk g p) (alone p ps) (and-left (placeOk g p && alone p ps) _ h)) j (omega arith) z
-places-apart g (p ∷ ps) h (suc i) zero l k n z =
-    λ q. later-apart p ps (and-right (placeOk g p) (alone p ps) (and-left (placeOk g p && alone p ps) _ h)) i (omega arith) (λ w. z (sym q ∙ w)) (sym q)
-places-apart g (p ∷ ps) h (suc i) (suc j) l k n z =
-    places-apart g ps (and-right (placeOk g p && alone p ps) _ h) i j (omega arith) (omega arith) (λ q. n (ap suc q)) z
-
--- ---- a place that is not free is active
-any-at : {A : Type 0} (f : A → Bool) (l : List A) (i : ℕ) (d : A) → i < length l → f (getD l i d) ≡ true → any f l ≡ true
-unfolding any
-any-at f [] i d h e = absurd (omega arith)
-any-at f (x ∷ l) zero d h e = or-left (f x) (any f l) e
-any-at f (x ∷ l) (suc i) d h e = or-right (f x) (any f l) (any-at f l i d (omega arith) e)
-
+-- a place that is not free is active
 pub place-active : (ps : List Place) (i : ℕ) → i < length ps → getD ps i noPlace .id ≢ 0 → active (getD ps i noPlace .id) ps ≡ true
 unfolding active
 place-active ps i l n =

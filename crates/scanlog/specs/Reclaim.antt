@@ -39,7 +39,7 @@ going-unlisted g z map b e =
     checkpointed-unlisted z b (f .is)
 
 -- the next page is in an available block, and so not in it
-pub next-outside : (z : Zones) (xs : List ℕ) (p b : ℕ) → Unlisted z b → 0 < cleanIn xs p (availableOf z) → inBlock p b (nextIn xs p (availableOf z)) ≡ false
+next-outside : (z : Zones) (xs : List ℕ) (p b : ℕ) → Unlisted z b → 0 < cleanIn xs p (availableOf z) → inBlock p b (nextIn xs p (availableOf z)) ≡ false
 next-outside z xs p b none clean =
     let n = next-is xs p (availableOf z) clean in
     let l : n .block * p ≤ nextIn xs p (availableOf z) = omega (arith, n .page) in

@@ -3,27 +3,28 @@
 use mathlib.Core.Path.{_≡_, refl, sym, ap, _∙_}
 use mathlib.Core.Logic.{_≢_}
 use mathlib.Core.Bool.{true, not}
-use Prim.Native.Nat.{ℕ, _+_, _*_, _≤_, _<_}
+use Prim.Native.Nat.{ℕ, _+_, _≤_, _<_}
 use native.Mathlib.Omega.{arith}
 use mathlib.Core.List.{List, _++_, append-nil, append-assoc}
 use lib.ListN.{length, length-append, length-take}
 use lib.Dec.{eqb}
 use borrow.Author.Tests.{eqb-false, not-true}
-use Rattle.model.specs.Recovery.{ofId, top}
-use Rattle.model.specs.Zones.{Entry, wholeFrom, usedIn, isFull, scanIn, scanOf, availableOf, unavailableOf, freeOf, zonesOf, zonesOk, active, staying, leaving, holdsWanted, judged, Taken, refill, zonesTaken, slide}
+use Rattle.model.specs.Recovery.{ofId}
+use Rattle.model.specs.Zones.{Entry, usedIn, isFull, scanIn, scanOf, availableOf, unavailableOf, freeOf, zonesOf, zonesOk, active, staying, leaving, holdsWanted, judged, Taken, refill, zonesTaken, slide}
 use Rattle.model.specs.declared.Geometry.{Geometry}
 use Rattle.model.specs.declared.Zones.{Zones}
 use Rattle.model.specs.declared.Place.{Place}
 use Rattle.arrays.specs.Tests.{and-left}
 use Rattle.arrays.specs.Scan.{Blank, scan-append, scan-blank}
+use Rattle.arrays.specs.ZoneLists.{zonesOf-available, zonesOf-unavailable, zonesOf-free, zonesOf-ok}
 use Rattle.scanlog.specs.Sublist.{Sublist, sub-refl, sub-append, sub-those, sub-length}
 use Rattle.scanlog.specs.Occ.{occ, occ-append, occ-sub, split-occ, split-length}
 use Rattle.scanlog.specs.Rising.{rising-sub}
 use Rattle.scanlog.specs.Log.{ofId-append}
-use Rattle.scanlog.specs.Shape.{Shape, shape, shape-ok, listed-block, zonesOf-available, zonesOf-unavailable, zonesOf-free, zonesOf-ok}
+use Rattle.scanlog.specs.Shape.{Shape, shape, shape-ok, listed-block}
 use Rattle.scanlog.specs.Take.{Took, took-refill}
 use Rattle.scanlog.specs.Order.{Order, each-sub, each-is, is-each, order-sub, order-append}
-use Rattle.scanlog.specs.Judged.{scan-sub, order-leave, Wanted, judged-ofId, Complete, unwanted-complete, block-top, judged-gone}
+use Rattle.scanlog.specs.Judged.{scan-sub, order-leave, Wanted, judged-ofId}
 
 module _ (g : Geometry) (xs : List ℕ) (ps : List Place) (z : Zones) where
   -- those still available
@@ -57,25 +58,25 @@ module _ (g : Geometry) (xs : List ℕ) (ps : List Place) (z : Zones) where
   took = took-refill g 3 start
 
   -- the free blocks that become available
-  pub fresh : List ℕ
+  fresh : List ℕ
   fresh = took .taken
 
-  pub slide-available : availableOf (slide g xs ps z) ≡ stay ++ fresh
+  slide-available : availableOf (slide g xs ps z) ≡ stay ++ fresh
   unfolding start fresh
   slide-available = rw slide-is (zonesOf-available (made .available) kept (made .free) (made .pointer) ∙ took .available)
 
-  pub slide-unavailable : unavailableOf (slide g xs ps z) ≡ kept
+  slide-unavailable : unavailableOf (slide g xs ps z) ≡ kept
   slide-unavailable = rw slide-is (zonesOf-unavailable (made .available) kept (made .free) (made .pointer))
 
   slide-free : freeOf (slide g xs ps z) ≡ made .free
   slide-free = rw slide-is (zonesOf-free (made .available) kept (made .free) (made .pointer))
 
   -- free blocks stay free or become available
-  pub slide-free-sub : Sublist (freeOf (slide g xs ps z)) (freeOf z)
+  slide-free-sub : Sublist (freeOf (slide g xs ps z)) (freeOf z)
   unfolding start
   slide-free-sub = rw slide-free (took .sub)
 
-  pub slide-free-each : (b : ℕ) → occ b fresh + occ b (freeOf (slide g xs ps z)) ≡ occ b (freeOf z)
+  slide-free-each : (b : ℕ) → occ b fresh + occ b (freeOf (slide g xs ps z)) ≡ occ b (freeOf z)
   unfolding start fresh
   slide-free-each b = rw slide-free (took .each b)
 
@@ -148,7 +149,7 @@ module _ (g : Geometry) (xs : List ℕ) (ps : List Place) (z : Zones) where
     pub slide-blank : Blank xs (g .pages) (freeOf (slide g xs ps z))
     slide-blank = each-sub (λ (c : ℕ). usedIn xs (g .pages) c ≡ 0) slide-free-sub blank
 
-    pub slide-scan : scanOf xs (g .pages) (slide g xs ps z) ≡ scanIn xs (g .pages) kept ++ near
+    slide-scan : scanOf xs (g .pages) (slide g xs ps z) ≡ scanIn xs (g .pages) kept ++ near
     unfolding scanOf near
     slide-scan =
         let p = g .pages in
@@ -175,33 +176,13 @@ module _ (g : Geometry) (xs : List ℕ) (ps : List Place) (z : Zones) where
             = sym (append-assoc u (leaving xs p a) (staying xs p a) ∙ ap (λ (t : List ℕ). u ++ t) (order-leave xs p a some order)) in
             ap (scanIn xs p) e ∙ scan-append xs p (u ++ leaving xs p a) (staying xs p a)
 
-        -- a block that is scanned no longer has pages of complete transactions alone, none with a version above those scanned
-        pub slide-leaves : (b : ℕ) → 0 < occ b (unavailableOf z ++ availableOf z) → occ b (unavailableOf (slide g xs ps z) ++ availableOf (slide g xs ps z)) ≡ 0
-            → Complete ps near (wholeFrom xs (b * g .pages) (g .pages)) × (top (wholeFrom xs (b * g .pages) (g .pages)) ≤ top (scanOf xs (g .pages) z))
-        unfolding scanOf kept others stay holdsWanted
-        slide-leaves b h k =
-            let p = g .pages in
-            let n : occ b (kept ++ (stay ++ fresh)) ≡ 0 = rw (slide-available, slide-unavailable) at k in
-            let o : 0 < occ b others
-            = omega (
-              arith,
-              n,
-              ap (occ b) (order-leave xs p (availableOf z) some order),
-              occ-append b (leaving xs p (availableOf z)) (staying xs p (availableOf z)),
-              occ-append b (unavailableOf z) (availableOf z),
-              occ-append b (unavailableOf z) (leaving xs p (availableOf z)),
-              occ-append b kept (stay ++ fresh),
-              occ-append b stay fresh,
-            ) in
-            (unwanted-complete ps near (wholeFrom xs (b * p) p) (judged-gone xs p ps near others b o (omega (arith, n, occ-append b kept (stay ++ fresh)))), block-top xs p (unavailableOf z ++ availableOf z) b h)
-
         -- nothing new is scanned, and what is scanned keeps its order
         pub slide-sub : Sublist (scanOf xs (g .pages) (slide g xs ps z)) (scanOf xs (g .pages) z)
         unfolding kept judged
         slide-sub = rw (slide-scan, scan-before) (sub-append (scan-sub xs (g .pages) (sub-those (holdsWanted xs (g .pages) ps near) others)) (sub-refl near))
 
         -- what is wanted is scanned as before
-        pub slide-ofId : (id : ℕ) → Wanted ps near id → ofId id (scanOf xs (g .pages) (slide g xs ps z)) ≡ ofId id (scanOf xs (g .pages) z)
+        slide-ofId : (id : ℕ) → Wanted ps near id → ofId id (scanOf xs (g .pages) (slide g xs ps z)) ≡ ofId id (scanOf xs (g .pages) z)
         unfolding kept
         slide-ofId id w =
             let p = g .pages in

@@ -11,9 +11,10 @@ use Rattle.model.specs.Zones.{usedIn, scanOf, zonesOf, zonesTaken, zonesOk, Tak
 use Rattle.model.specs.declared.Geometry.{Geometry}
 use Rattle.arrays.specs.Ranges.{block-is}
 use Rattle.arrays.specs.Scan.{Blank, scan-blank}
+use Rattle.arrays.specs.ZoneLists.{zonesOf-available, zonesOf-unavailable, zonesOf-free, zonesOf-ok}
 use Rattle.scanlog.specs.Occ.{occ, occ-append}
 use Rattle.scanlog.specs.Rising.{rising-sub, up-once, up-in, up-rising, up-length}
-use Rattle.scanlog.specs.Shape.{Shape, shape-ok, zonesOf-available, zonesOf-unavailable, zonesOf-free, zonesOf-ok}
+use Rattle.scanlog.specs.Shape.{Shape, shape-ok}
 use Rattle.scanlog.specs.Take.{Took, took-refill}
 use Rattle.scanlog.specs.Order.{is-each, blank-order}
 use Rattle.scanlog.specs.Tidy.{Tidy}

@@ -28,7 +28,7 @@ module _ {A : Type 0} where
   sub-append (skip y s) t = skip y (sub-append s t)
   sub-append (both y s) t = both y (sub-append s t)
 
-  pub sub-more : {xs ys : List A} (y : A) → Sublist xs ys → Sublist xs (ys ++ (y ∷ []))
+  sub-more : {xs ys : List A} (y : A) → Sublist xs ys → Sublist xs (ys ++ (y ∷ []))
   sub-more y nil = skip y nil
   sub-more y (skip z s) = skip z (sub-more y s)
   sub-more y (both z s) = both z (sub-more y s)

@@ -17,7 +17,7 @@ use Rattle.model.specs.declared.Place.{Place}
 use Rattle.arrays.specs.Tests.{not-so}
 use Rattle.arrays.specs.Bytelist.{Bytes}
 use Rattle.arrays.specs.Pages.{Other, OtherBlock, SamePages, PageFits, BlockFits}
-use Rattle.arrays.specs.Ops.{program-other, cut-program-other, erase-others, cut-erase-others}
+use Rattle.arrays.specs.Ops.{program-other, cut-program-other, erase-others}
 use Rattle.arrays.specs.Ranges.{block-page-is, data-page-fits}
 use Rattle.arrays.specs.Whole.{whole-class}
 use Rattle.arrays.specs.Arrays.{ProgramOk, cut-torn}
@@ -44,14 +44,14 @@ outside-same : (xs ys : List ℕ) (p b : ℕ) (bs : List ℕ) → OtherBlock p b
 outside-same xs ys p b bs o n = each-map (λ (c : ℕ). c ≢ b) (λ (c : ℕ). SamePages xs ys (c * p) p) o bs (away b bs n)
 
 module _ (g : Geometry) (xs ys : List ℕ) (z : Zones) (b : ℕ) (none : Unlisted z b) (o : OtherBlock (g .pages) b xs ys) where
-  pub tidy-outside : Tidy g xs z → Tidy g ys z
+  tidy-outside : Tidy g xs z → Tidy g ys z
   tidy-outside t = record {
     ok = t .ok;
     order = order-stays xs ys (g .pages) (availableOf z) (outside-same xs ys (g .pages) b (availableOf z) o (omega arith)) (t .order);
     blank = blank-stays xs ys (g .pages) (freeOf z) (outside-same xs ys (g .pages) b (freeOf z) o (omega arith)) (t .blank);
   }
 
-  pub scan-outside : scanOf ys (g .pages) z ≡ scanOf xs (g .pages) z
+  scan-outside : scanOf ys (g .pages) z ≡ scanOf xs (g .pages) z
   scan-outside = scanOf-same xs ys (g .pages) z (outside-same xs ys (g .pages) b (unavailableOf z) o (omega arith)) (outside-same xs ys (g .pages) b (availableOf z) o (omega arith))
 
 -- ---- the next page of the available blocks
@@ -83,7 +83,7 @@ module _ (g : Geometry) (xs : List ℕ) (z : Zones) (t : Tidy g xs z) (clean : 0
     available-once : Distinct (availableOf z)
     available-once c = omega (arith, each-once g z (t .ok) c)
 
-    pub tidy-next : Tidy g ys z
+    tidy-next : Tidy g ys z
     tidy-next = record {
       ok = t .ok;
       order = order-next xs ys (g .pages) (availableOf z) available-once clean o (t .order);
@@ -135,12 +135,6 @@ module _ (g : Geometry) (xs : List ℕ) (z : Zones) (t : Tidy g xs z) (b : ℕ) 
 
   pub scan-erase : scanOf (applyOp (g .pages) (erase b) xs) (g .pages) z ≡ scanOf xs (g .pages) z
   scan-erase = scan-outside g xs (applyOp (g .pages) (erase b) xs) z b none (erase-others (g .pages) xs b fits)
-
-  pub tidy-cut-erase : (lets : List ℕ) → Tidy g (cutOp (g .pages) (erase b) lets xs) z
-  tidy-cut-erase lets = tidy-outside g xs (cutOp (g .pages) (erase b) lets xs) z b none (cut-erase-others (g .pages) xs b fits lets) t
-
-  pub scan-cut-erase : (lets : List ℕ) → scanOf (cutOp (g .pages) (erase b) lets xs) (g .pages) z ≡ scanOf xs (g .pages) z
-  scan-cut-erase lets = scan-outside g xs (cutOp (g .pages) (erase b) lets xs) z b none (cut-erase-others (g .pages) xs b fits lets)
 
 -- ---- a checkpoint's last stride
 module _ (g : Geometry) (xs : List ℕ) (ps : List Place) (z : Zones) (t : Tidy g xs z) where

@@ -1,28 +1,27 @@
 -- A place is forgotten: abort, and a commit with nothing written, keep the world live and close the change.
-use mathlib.Core.Path.{_≡_, refl, sym, ap, _∙_, subst}
-use mathlib.Core.Logic.{_⊎_, inl, inr, _≢_}
-use mathlib.Core.Bool.{Bool, true, false, not, cond, _&&_, _||_}
-use Prim.Native.Nat.{ℕ, zero, suc, _+_, _≤_, _<_}
+use mathlib.Core.Path.{_≡_, refl, sym, ap, _∙_}
+use mathlib.Core.Logic.{inl, inr, _≢_}
+use mathlib.Core.Bool.{true, false}
+use Prim.Native.Nat.{ℕ, _<_}
 use native.Mathlib.Omega.{arith}
-use mathlib.Core.List.{List, [], _∷_, _++_}
-use lib.ListN.{length, getD, set, length-set}
+use mathlib.Core.List.{List}
+use lib.ListN.{length, set, length-set}
 use lib.Seq.{getD-set-same, getD-set-other}
-use lib.Dec.{eqb, leb}
+use lib.Dec.{leb}
 use Rattle.model.specs.Answers.{refused}
-use Rattle.model.specs.World.{World, Plan, refuse, none, applyOp}
+use Rattle.model.specs.World.{World, Plan, applyOp}
 use Rattle.model.specs.Frame.{freePlace, noPlace, isIdle}
-use Rattle.model.specs.Transactions.{placeOf, withPlace, forgetPlan, planAbort}
-use Rattle.model.specs.Commands.{Call, abort, plan, carried, exec, Outcome}
-use Rattle.model.specs.Book.{Book, Event, called, tell, entering, changing, writesOf, close}
+use Rattle.model.specs.Transactions.{placeOf, forgetPlan, planAbort}
+use Rattle.model.specs.Commands.{abort, plan, carried}
+use Rattle.model.specs.Book.{Book, entering, changing, writesOf, close}
 use Rattle.model.specs.declared.Place.{Place}
-use Rattle.model.specs.declared.State.{State}
 use Rattle.arrays.specs.Tests.{Is, eqb-cases}
-use Rattle.scanlog.specs.Open.{Opens, opens-set}
-use Rattle.sequence.specs.Places.{PlacesGood, placeAt, places-set, free-ok, Found, place-found}
+use Rattle.scanlog.specs.Open.{opens-set}
+use Rattle.sequence.specs.Places.{placeAt, places-set, free-ok, Found, place-found}
 use Rattle.sequence.specs.OpenBook.{isOpen, close-own, close-other, close-open}
 use Rattle.sequence.specs.Writes.{Writes}
 use Rattle.sequence.specs.Live.{Changing, Live, scanned}
-use Rattle.sequence.specs.View.{View, no, yes, view-test, view-gate, idle-only, Keeps, done-live, view-keeps}
+use Rattle.sequence.specs.View.{View, yes, view-test, view-gate, idle-only, Keeps, done-live, view-keeps}
 use Rattle.sequence.specs.Begin.{placed, live-place}
 
 -- ---- the open changes without that of place i

@@ -1,34 +1,30 @@
 -- A data page programmed on the next page: the array, the zones and the log after it, done or cut short.
-use mathlib.Core.Path.{_≡_, refl, sym, ap, _∙_, subst}
-use mathlib.Core.Logic.{_⊎_, inl, inr, _≢_}
-use mathlib.Core.Bool.{Bool, true, false}
-use Prim.Native.Nat.{ℕ, zero, suc, _+_, _*_, _≤_, _<_}
+use mathlib.Core.Path.{_≡_, sym, ap, _∙_, subst}
+use mathlib.Core.Logic.{_≢_}
+use mathlib.Core.Bool.{true, false}
+use Prim.Native.Nat.{ℕ, _≤_, _<_}
 use native.Mathlib.Omega.{arith}
 use mathlib.Core.List.{List, [], _∷_, _++_}
-use lib.ListN.{length, replicate}
-use Rattle.model.specs.Page.{pageAt, dataAt, blankAt, wholeAt, spareOf, pageBytes, classOf}
+use lib.ListN.{length}
+use Rattle.model.specs.Page.{pageAt, dataAt, blankAt, wholeAt, spareOf, pageBytes}
 use Rattle.model.specs.Geometry.{unmapped, dataPage}
-use Rattle.model.specs.Zones.{Entry, availableOf, scanOf, entryOf, cleanIn, nextIn}
+use Rattle.model.specs.Zones.{Entry, scanOf, entryOf}
 use Rattle.model.specs.World.{World, Op, Plan, program, applyOp, dueBits, turnedBits, everyTurned, cutOp}
 use Rattle.model.specs.Transactions.{cleanPages, nextPage}
 use Rattle.model.specs.Book.{Book, Content}
 use Rattle.model.specs.declared.Geometry.{Geometry}
 use Rattle.model.specs.declared.Spare.{Spare}
-use Rattle.model.specs.declared.Zones.{Zones}
-use Rattle.arrays.specs.Tests.{clash}
 use Rattle.arrays.specs.Bytelist.{Bytes}
-use Rattle.arrays.specs.Pages.{PageFits}
-use Rattle.arrays.specs.Ranges.{InGeometry, page-least, page-most, page-small}
+use Rattle.arrays.specs.Ranges.{page-least, page-most, page-small}
 use Rattle.arrays.specs.Ops.{length-apply, length-cut, bytes-apply, bytes-cut, program-other, cut-program-other}
-use Rattle.arrays.specs.Image.{SpareFits, image-spare, image-data}
-use Rattle.arrays.specs.Arrays.{ProgramOk, image-ok, programmed, programmed-whole, programmed-data, programmed-spare, program-keeps, cut-program-keeps, Leans, leans-apply, leans-cut}
-use Rattle.front.specs.Local.{SameFront}
-use Rattle.front.specs.Written.{Saved}
-use Rattle.front.specs.Front.{Front, front-away}
+use Rattle.arrays.specs.Image.{SpareFits, image-spare}
+use Rattle.arrays.specs.Arrays.{ProgramOk, image-ok, programmed-whole, programmed-data, programmed-spare, program-keeps, cut-program-keeps, leans-apply, leans-cut}
+use Rattle.front.specs.Newest.{SameFront}
+use Rattle.front.specs.Front.{front-away}
 use Rattle.scanlog.specs.Occ.{occ}
 use Rattle.scanlog.specs.Logged.{Logged}
 use Rattle.scanlog.specs.Tidy.{Tidy, next-data, next-fits, next-erased, tidy-program, scan-order-is-write-order, tidy-cut, scan-torn}
-use Rattle.scanlog.specs.Free.{Grown, grown-scan, grown-tidy}
+use Rattle.scanlog.specs.Free.{grown-scan, grown-tidy}
 use Rattle.sequence.specs.Maps.{MapGood}
 use Rattle.sequence.specs.Contents.{Contents, contents-keep, blank-unmapped}
 use Rattle.sequence.specs.Writes.{WholeSame}
@@ -48,6 +44,7 @@ pub record Appends (w : World) (b : Book) (p : Plan) : Type 0 where
       → Stored (w .state .geometry) (cutOp (w .state .geometry .pages) (program (nextPage w) new) lets (w .array)) (b .pages)
 
 module _ (w : World) (b : Book) (h : Live w b) (clean : 0 < cleanPages w) (d : List ℕ) (s : Spare) (long : length d ≡ 512) (small : Bytes d) (fit : SpareFits s) where
+  -- geometry, array, the next page, and what is done to it
   abbrev g : Geometry
   g = w .state .geometry
 
@@ -92,7 +89,7 @@ module _ (w : World) (b : Book) (h : Live w b) (clean : 0 < cleanPages w) (d : L
   pub append-keeps : WholeSame xs appended
   append-keeps = program-keeps (g .pages) xs k (pageBytes d s) append-ok
 
-  pub cut-keeps : (lets : List ℕ) → WholeSame xs (cutOp (g .pages) op lets xs)
+  cut-keeps : (lets : List ℕ) → WholeSame xs (cutOp (g .pages) op lets xs)
   cut-keeps lets = cut-program-keeps (g .pages) xs k (pageBytes d s) append-ok lets
 
   -- ---- zones and scan

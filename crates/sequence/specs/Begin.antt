@@ -1,43 +1,32 @@
--- Commands that touch a place alone: begin, abort and a commit with nothing written keep the world live.
-use mathlib.Core.Path.{_≡_, refl, sym, ap, _∙_, subst}
-use mathlib.Core.Logic.{_⊎_, inl, inr, _≢_}
-use mathlib.Core.Bool.{Bool, true, false, not, cond, _&&_, _||_}
-use Prim.Native.Nat.{ℕ, zero, suc, _+_, _≤_, _<_}
+-- A begin keeps the world live: the lowest free place is taken, and the book has an open change; and what another place leaves of a live world.
+use mathlib.Core.Path.{_≡_, refl, sym, ap, _∙_}
+use mathlib.Core.Logic.{inl, inr, _≢_}
+use mathlib.Core.Bool.{Bool, true, false, _||_}
+use Prim.Native.Nat.{ℕ, _<_}
 use native.Mathlib.Omega.{arith}
 use mathlib.Core.List.{List, [], _∷_, _++_}
-use lib.ListN.{length, getD, set, length-set}
+use lib.ListN.{length, set, length-set}
 use lib.Seq.{getD-set-same, getD-set-other}
-use lib.Dec.{eqb, leb, ltb}
-use borrow.Author.Tests.{eqb-true, eq-eqb, ne-eqb, ltb-true}
+use lib.Dec.{eqb, leb}
+use borrow.Author.Tests.{eq-eqb, ne-eqb, ltb-true}
 use Rattle.model.specs.Lists.{find}
-use Rattle.model.specs.Zones.{hasId, active, onPages, scanOf}
-use Rattle.model.specs.Recovery.{ofId}
+use Rattle.model.specs.Zones.{hasId, active, onPages}
 use Rattle.model.specs.Answers.{refused}
-use Rattle.model.specs.World.{World, Plan, refuse, none, applyOp}
-use Rattle.model.specs.Frame.{freePlace, noPlace, badId, placeOk, frameOk, isIdle, gate}
-use Rattle.model.specs.Transactions.{placeOf, withPlace, begun, liveId, planBegin, forgetPlan, planAbort}
-use Rattle.model.specs.Commands.{Call, begin, abort, plan, carried, exec, Outcome}
-use Rattle.model.specs.Book.{Book, Event, called, tell, entering, changing, writesOf, addTo, close}
+use Rattle.model.specs.World.{World, Plan, none, applyOp}
+use Rattle.model.specs.Frame.{noPlace, badId, isIdle}
+use Rattle.model.specs.Transactions.{withPlace, begun, liveId, planBegin}
+use Rattle.model.specs.Commands.{begin, plan, carried}
+use Rattle.model.specs.Book.{Book, entering, changing, writesOf}
 use Rattle.model.specs.Sequence.{fits}
-use Rattle.model.specs.declared.Geometry.{Geometry}
 use Rattle.model.specs.declared.Place.{Place}
-use Rattle.model.specs.declared.State.{State}
-use Rattle.model.specs.declared.Work.{Work}
-use Rattle.model.specs.declared.Work.the-variants.{Idle, Format, Checkpoint, Reclaim}
 use Rattle.arrays.specs.Tests.{Is, eqb-cases, clash, or-false-left, or-false-right}
-use Rattle.front.specs.Kept.{Kept, calm, kept-away}
-use Rattle.scanlog.specs.Open.{Open, Opens, opens-set, open-begun}
-use Rattle.sequence.specs.Places.{PlacesGood, placeAt, places-set, free-ok, begun-ok, Found, place-found, inactive, free-found}
-use Rattle.sequence.specs.OpenBook.{isOpen, opened, begin-own, begin-other, begin-open, close-own, close-other, close-open}
+use Rattle.front.specs.Kept.{kept-away}
+use Rattle.scanlog.specs.Open.{Opens, opens-set, open-begun}
+use Rattle.sequence.specs.Places.{PlacesGood, placeAt, places-set, begun-ok, inactive, free-found}
+use Rattle.sequence.specs.OpenBook.{isOpen, opened, begin-own, begin-other, begin-open}
 use Rattle.sequence.specs.Writes.{Writes, writes-begun}
 use Rattle.sequence.specs.Live.{Changing, Live, scanned}
-use Rattle.sequence.specs.View.{View, no, yes, view-test, view-gate, idle-only, Keeps, done-live, view-keeps}
-
-pub idle-calm : (k : Work) → isIdle k ≡ true → calm k ≡ true
-idle-calm Idle h = refl
-idle-calm (Format k) h = h
-idle-calm (Checkpoint k) h = h
-idle-calm Reclaim h = refl
+use Rattle.sequence.specs.View.{View, yes, view-test, view-gate, idle-only, idle-calm, Keeps, done-live, view-keeps}
 
 -- ---- a world with another place i
 abbrev pub placed : World → ℕ → Place → World
@@ -80,6 +69,7 @@ begin-view id w =
 
 module _ (w : World) (b : Book) (id : ℕ) (h : Live w b) (small : id < 4294967296) (idle : isIdle (w .state .work) ≡ true) (name : badId id ≡ false) (fresh : liveId id w ≡ false)
     (room : leb 8 (find (hasId 0) (w .state .places)) ≡ false) where
+  -- the places, and the lowest free one
   abbrev ps : List Place
   ps = w .state .places
 
@@ -101,6 +91,7 @@ module _ (w : World) (b : Book) (id : ℕ) (h : Live w b) (small : id < 42949672
   unfolding liveId
   off = or-false-right (active id ps) _ fresh
 
+  -- the book after it
   abbrev after : Book
   after = record { pages = b .pages; changes = b .changes ++ (opened id ∷ []) }
 
@@ -141,7 +132,7 @@ module _ (w : World) (b : Book) (id : ℕ) (h : Live w b) (small : id < 42949672
       other j l (inl q) = λ e. n (sym e ∙ ap (λ (i : ℕ). placeAt ps i .id) (q .0) ∙ free-found ps (h .changing .eight) room .1)
       other j l (inr q) = rw (at-other j (q .0)) at (k j l)
 
-  pub begin-live : Live (placed w slot (begun id)) after
+  begin-live : Live (placed w slot (begun id)) after
   begin-live = live-place w b after slot (begun id) h idle refl
       (places-set (w .state .geometry) ps slot (begun id) (h .places) (begun-ok (w .state .geometry) id name) (λ z j l n. unfold begun in unused j l))
       (opens-set ps (scanned w) (scanned w) slot (begun id) (h .opens) (λ z. open-begun id (scanned w) off) (λ j l n z. refl))

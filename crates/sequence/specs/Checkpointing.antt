@@ -1,52 +1,42 @@
 -- A stride of a checkpoint keeps the world live; cut at any bit, the array is sound with the same pages of the book.
-use mathlib.Core.Path.{_≡_, refl, sym, ap, _∙_, subst}
-use mathlib.Core.Logic.{_⊎_, inl, inr, _≢_}
-use mathlib.Core.Bool.{Bool, true, false, not, cond, _&&_, _||_}
-use Prim.Native.Nat.{ℕ, zero, suc, _+_, _-_, _*_, _≤_, _<_}
+use mathlib.Core.Path.{_≡_, refl, ap, _∙_}
+use mathlib.Core.Logic.{_⊎_, inl, inr}
+use mathlib.Core.Bool.{true, false}
+use Prim.Native.Nat.{ℕ, _+_, _-_, _*_}
 use native.Mathlib.Omega.{arith}
-use mathlib.Core.List.{List, [], _∷_, _++_}
-use lib.ListN.{length, getD}
-use lib.Dec.{eqb, ltb}
+use mathlib.Core.List.{List}
+use lib.ListN.{length}
 use borrow.Author.Tests.{ltb-false}
-use Rattle.model.specs.Page.{pageAt}
 use Rattle.model.specs.Geometry.{mapPages}
-use Rattle.model.specs.Zones.{Entry, scanOf, slide, zonesOk, active, hasId}
-use Rattle.model.specs.Answers.{refused}
-use Rattle.model.specs.World.{World, Plan, Op, refuse, none, program, erase, applyOp, cutOp, turn}
-use Rattle.model.specs.Frame.{noPlace}
+use Rattle.model.specs.Zones.{slide, zonesOk}
+use Rattle.model.specs.World.{World, Plan, applyOp, cutOp}
 use Rattle.model.specs.Transactions.{spent}
 use Rattle.model.specs.Strides.{withWork, withZones, withNumber, mapStride, zoneStride, otherStride, planCheckpoint}
-use Rattle.model.specs.Commands.{Call, checkpoint, plan, carried, exec, Outcome}
-use Rattle.model.specs.Book.{Book, Content, Event, called, tell, entering, changing}
+use Rattle.model.specs.Commands.{checkpoint, plan, carried, exec}
+use Rattle.model.specs.Book.{Book, entering, changing}
 use Rattle.model.specs.Sequence.{cutArray}
 use Rattle.model.specs.declared.Geometry.{Geometry}
-use Rattle.model.specs.declared.Place.{Place}
 use Rattle.model.specs.declared.State.{State}
 use Rattle.model.specs.declared.Zones.{Zones}
 use Rattle.model.specs.declared.Work.the-variants.{Checkpoint}
-use Rattle.arrays.specs.Tests.{clash}
 use Rattle.arrays.specs.Bytelist.{Bytes}
-use Rattle.arrays.specs.Ranges.{InGeometry}
 use Rattle.arrays.specs.Ops.{length-apply, length-cut, bytes-apply, bytes-cut}
 use Rattle.arrays.specs.Arrays as operation
 use Rattle.arrays.specs.Arrays.{Leans, leans-apply, leans-cut, sound-range}
-use Rattle.front.specs.Away.{InFront, SameData, front-done, front-cut}
-use Rattle.front.specs.Written.{Saved, Sane}
+use Rattle.front.specs.Blocks.{SameData, front-done, front-cut}
 use Rattle.front.specs.Front.{Front}
 use Rattle.front.specs.Kept.{Kept}
-use Rattle.front.specs.Moved.{slide-fits}
+use Rattle.front.specs.ZoneBack.{slide-fits}
 use Rattle.front.specs.Effect.{sound-did, sound-cut}
-use Rattle.front.specs.CheckpointStrides.{after, saving, Accepted, Ready, Stride, refuses, erases, maps, zones, checkpoint-stride}
+use Rattle.front.specs.CheckpointStrides.{after, saving, Stride, refuses, erases, maps, zones, checkpoint-stride}
 use Rattle.front.specs.CheckpointFront.{newestThen, stride-did, stride-cut}
-use Rattle.front.specs.CheckpointCalls.{Holds, saving-sane, stride-geometry, stride-sound, stride-in-front}
+use Rattle.front.specs.CheckpointOps.{Holds, saving-sane, stride-geometry, stride-sound, stride-in-front}
 use Rattle.scanlog.specs.Sublist.{Sublist, sub-refl}
-use Rattle.scanlog.specs.Logged.{Logged, logged-saved}
-use Rattle.scanlog.specs.Open.{Opens, opens-same, place-active}
+use Rattle.scanlog.specs.Logged.{logged-saved}
+use Rattle.scanlog.specs.Open.{opens-same, place-active}
 use Rattle.scanlog.specs.Slide.{slide-active}
 use Rattle.scanlog.specs.Tidy.{Tidy, tidy-slide, sub-slide}
-use Rattle.scanlog.specs.Free.{Grown, grown-same}
-use Rattle.sequence.specs.Maps.{MapGood}
-use Rattle.sequence.specs.Contents.{Contents}
+use Rattle.scanlog.specs.Free.{grown-same}
 use Rattle.sequence.specs.Places.{placeAt}
 use Rattle.sequence.specs.Sound.{Sound, Stored}
 use Rattle.sequence.specs.Live.{Changing, Live, live-range, live-logged, live-frame, scanned}
@@ -54,6 +44,7 @@ use Rattle.sequence.specs.View.{Keeps, done-live, more-live, refused-liv
 use Rattle.sequence.specs.Spared.{Spared, spared-tidy, spared-scan, spared-contents, spared-changing, spared-sound, front-spares}
 
 module _ (w : World) (b : Book) (h : Live w b) where
+  -- geometry and array, and the zones that the last stride makes
   abbrev g : Geometry
   g = w .state .geometry
 
@@ -66,9 +57,10 @@ module _ (w : World) (b : Book) (h : Live w b) where
   slid-tidy : Tidy g xs slid
   slid-tidy = tidy-slide g xs (w .state .places) (w .state .zones) (h .tidy)
 
-  pub live-holds : Holds w
+  live-holds : Holds w
   live-holds = record { version = omega (arith, h .sound .last); moved = slid-tidy .ok }
 
+  -- the stride that the call does
   abbrev does : Stride w (planCheckpoint w)
   does = checkpoint-stride w (h .saved) (h .kept)
 
@@ -78,11 +70,11 @@ module _ (w : World) (b : Book) (h : Live w b) where
     spares z ok = front-spares g xs ys z (w .map) ok (h .sound .good) same
 
     -- with the same newest checkpoint
-    pub same-sound : Front g ys (h .saved) → Sound g ys (h .saved) (w .map) (w .state .version) (b .pages)
+    same-sound : Front g ys (h .saved) → Sound g ys (h .saved) (w .map) (w .state .version) (b .pages)
     same-sound f = spared-sound g xs ys (w .state .zones) (w .map) (spares (w .state .zones) (h .tidy .ok)) (h .saved) (w .state .version) (b .pages) (h .grown) long y l f (h .sound)
 
     -- with the one that the last stride completes
-    pub next-sound : (j : ℕ) → spent (w .state .checkpoint) 1 ≡ false → Front g ys (saving w j) → Sound g ys (saving w j) (w .map) (w .state .version) (b .pages)
+    next-sound : (j : ℕ) → spent (w .state .checkpoint) 1 ≡ false → Front g ys (saving w j) → Sound g ys (saving w j) (w .map) (w .state .version) (b .pages)
     unfolding saving
     next-sound j n f =
         let s = spares slid (slid-tidy .ok) in
@@ -108,7 +100,7 @@ module _ (w : World) (b : Book) (h : Live w b) where
     still-changing = spared-changing g xs ys (w .state .zones) (w .map) (spares (w .state .zones) (h .tidy .ok)) (w .hold) (w .state .places) b (h .opens) (h .changing)
 
     -- a stride before the last
-    pub more-strides : (s : State) → s .geometry ≡ g → s .zones ≡ w .state .zones → s .version ≡ w .state .version → s .places ≡ w .state .places
+    more-strides : (s : State) → s .geometry ≡ g → s .zones ≡ w .state .zones → s .version ≡ w .state .version → s .places ≡ w .state .places
         → Kept (record { array = ys; map = w .map; hold = w .hold; state = s }) (h .saved) → Live (record { array = ys; map = w .map; hold = w .hold; state = s }) b
     more-strides s a c d f k = record {
       saved = h .saved;
@@ -123,7 +115,7 @@ module _ (w : World) (b : Book) (h : Live w b) where
     }
 
     -- the last stride
-    pub last-stride : (j : ℕ) → spent (w .state .checkpoint) 1 ≡ false → (s : State) → s .geometry ≡ g → s .zones ≡ slid → s .version ≡ w .state .version
+    last-stride : (j : ℕ) → spent (w .state .checkpoint) 1 ≡ false → (s : State) → s .geometry ≡ g → s .zones ≡ slid → s .version ≡ w .state .version
         → s .places ≡ w .state .places → Kept (record { array = ys; map = w .map; hold = w .hold; state = s }) (saving w j) → Live (record { array = ys; map = w .map; hold = w .hold; state = s }) b
     unfolding saving
     last-stride j n s a c d f k = record {
@@ -145,6 +137,7 @@ module _ (w : World) (b : Book) (h : Live w b) where
     ok : operation.Sound (g .pages) (l .op) xs
     ok = stride-sound w live-holds l s
 
+    -- the array after it
     abbrev ys : List ℕ
     ys = applyOp (g .pages) (l .op) xs
 
@@ -200,6 +193,7 @@ module _ (w : World) (b : Book) (h : Live w b) where
 
   -- ---- a stride cut
   module _ (l : Plan) (s : Stride w l) (lets : List ℕ) where
+    -- the array that the cut leaves
     abbrev zs : List ℕ
     zs = cutOp (g .pages) (l .op) lets xs
 

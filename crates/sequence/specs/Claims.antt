@@ -1,26 +1,26 @@
 -- What document 01 claims on the way to demand 3, of the worlds of a sequence, each sentence as a theorem.
-use mathlib.Core.Path.{_≡_, refl, sym, ap, _∙_, subst}
-use mathlib.Core.Bool.{Bool, true, false, false≢true}
+use mathlib.Core.Path.{_≡_, refl, sym, _∙_, subst}
+use mathlib.Core.Bool.{true, false, false≢true}
 use Prim.Native.Nat.{ℕ, _<_}
 use mathlib.Core.List.{List, [], _∷_, _++_}
 use Rattle.model.specs.Page.{spareOf}
 use Rattle.model.specs.Geometry.{geometryOk, dataPage}
-use Rattle.model.specs.Zones.{Entry, entryOf}
+use Rattle.model.specs.Zones.{entryOf}
 use Rattle.model.specs.Answers.{refused}
-use Rattle.model.specs.World.{World, Op, program, Plan}
+use Rattle.model.specs.World.{World, Op, program}
 use Rattle.model.specs.Frame.{isIdle}
 use Rattle.model.specs.Transactions.{readAnswer}
 use Rattle.model.specs.Strides.{isCheckpoint, isReclaim, picked}
-use Rattle.model.specs.Commands.{Call, format, recover, begin, write, lone, commit, abort, read, checkpoint, reclaim, plan, carried, exec, Outcome}
+use Rattle.model.specs.Commands.{Call, format, recover, begin, write, lone, commit, abort, read, checkpoint, reclaim, plan, carried, exec}
 use Rattle.model.specs.Book.{Book, Event, called, cutIn, cutBetween, blank, tell, story, pageOf, contentAnswer}
 use Rattle.model.specs.Sequence.{fits, Phase, live, dark, Allowed, isRecovery, cutEvent, Step, call, cut, between, back, failed, lost, again, Run, stop, next, Formatted}
 use Rattle.model.specs.declared.Geometry.{Geometry}
 use Rattle.model.specs.declared.Work.{Work}
 use Rattle.scanlog.specs.Sublist.{Sublist}
-use Rattle.sequence.specs.Live.{Live, live-reads, scanned}
+use Rattle.sequence.specs.Live.{live-reads, scanned}
 use Rattle.sequence.specs.Start.{formatted-live, formatted-idle, some-formatted}
 use Rattle.sequence.specs.ScanOrder.{added, ScannedLast, InOrder, call-orders}
-use Rattle.sequence.specs.UnderWay.{another, GoesOn, busy-same, checkpoint-not-refused, reclaim-not-refused, goes-call, goes-recovered, copy-picks-same, checkpoint-more, reclaim-more}
+use Rattle.sequence.specs.UnderWay.{another, GoesOn, More, busy-same, checkpoint-not-refused, reclaim-not-refused, goes-call, goes-recovered, copy-picks-same, checkpoint-more, reclaim-more}
 use Rattle.sequence.specs.Theorem.{LiveAt, Holds, step-holds, run-holds}
 
 -- ---- the worlds of a sequence
@@ -83,11 +83,11 @@ module _ (g : Geometry) (es : List Event) (w : World) (s : InSequence g es w) wh
   pub reclaim-goes-on : isReclaim (w .state .work) ≡ true → refused (exec reclaim w .answer) ≡ false
   reclaim-goes-on = reclaim-not-refused w (story (blank g) es) (sequence-live .world) goes
 
-  -- a stride that answers more leaves its work under way
-  pub checkpoint-under-way : exec checkpoint w .answer ≡ 255 → isCheckpoint (exec checkpoint w .world .state .work) ≡ true
+  -- a stride that answers more leaves its work under way; and "zones change in the last"
+  pub checkpoint-under-way : exec checkpoint w .answer ≡ 255 → More isCheckpoint w (exec checkpoint w .world)
   checkpoint-under-way = checkpoint-more w (story (blank g) es) (sequence-live .world)
 
-  pub reclaim-under-way : exec reclaim w .answer ≡ 255 → isReclaim (exec reclaim w .world .state .work) ≡ true
+  pub reclaim-under-way : exec reclaim w .answer ≡ 255 → More isReclaim w (exec reclaim w .world)
   reclaim-under-way = reclaim-more w (story (blank g) es) (sequence-live .world)
 
   -- and no other call between two strides alters anything, but a recover
@@ -113,6 +113,7 @@ ReadRight g b (called reclaim n) = Unit {0}
 ReadRight g b (cutIn c programs due turned) = Unit {0}
 ReadRight g b cutBetween = Unit {0}
 
+-- every read of the list
 abbrev pub ReadsRight : Geometry → Book → List Event → Type 0
 ReadsRight g b [] = Unit {0}
 ReadsRight g b (e ∷ es) = ReadRight g b e × ReadsRight g (tell b e) es

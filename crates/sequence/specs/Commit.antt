@@ -1,51 +1,45 @@
 -- A commit keeps the world live: its mark is programmed, its pages are mapped in write order, and the book has its writes.
 use mathlib.Core.Path.{_≡_, refl, sym, ap, _∙_, subst}
 use mathlib.Core.Logic.{_⊎_, inl, inr, _≢_}
-use mathlib.Core.Bool.{Bool, true, false, not, cond, _&&_, _||_}
-use Prim.Native.Nat.{ℕ, zero, suc, _+_, _-_, _*_, _≤_, _<_}
+use mathlib.Core.Bool.{true, false}
+use Prim.Native.Nat.{ℕ, suc, _+_, _-_, _≤_, _<_}
 use native.Mathlib.Omega.{arith}
 use native.Mathlib.Numerals.{add-one}
 use mathlib.Core.List.{List, [], _∷_, _++_}
-use lib.ListN.{length, take, getD, set, length-set}
+use lib.ListN.{length, getD, set}
 use lib.Seq.{getD-set-same, getD-set-other, take-all}
 use lib.Dec.{eqb, leb, ltb}
 use borrow.Author.Tests.{eqb-true, eqb-false, ltb-true, ltb-false}
-use Rattle.model.specs.Page.{pageAt, spareOf, pageBytes, wholeAt, blankAt}
+use Rattle.model.specs.Page.{pageAt, spareOf, wholeAt, blankAt}
 use Rattle.model.specs.Geometry.{dataPage}
-use Rattle.model.specs.Zones.{Entry, entryOf, scanOf}
-use Rattle.model.specs.Recovery.{ofId, enter}
+use Rattle.model.specs.Zones.{entryOf}
 use Rattle.model.specs.Answers.{refused}
-use Rattle.model.specs.World.{World, Plan, Op, refuse, none, program, applyOp}
+use Rattle.model.specs.World.{World, Plan, applyOp}
 use Rattle.model.specs.Frame.{freePlace, noPlace, badId, isIdle}
 use Rattle.model.specs.Transactions.{placeOf, withPlace, withVersion, cleanPages, nextPage, zoneShort, spent, dataBytes, heldAt, heldPage, entered, markPlan, forgetPlan, planCommit}
-use Rattle.model.specs.Commands.{Call, commit, plan, carried, exec, Outcome}
-use Rattle.model.specs.Book.{Book, Write, Content, Event, called, tell, entering, changing, writesOf, close, enterAll}
+use Rattle.model.specs.Commands.{commit, plan, carried}
+use Rattle.model.specs.Book.{Book, Write, entering, changing, writesOf, close, enterAll}
 use Rattle.model.specs.declared.Geometry.{Geometry}
 use Rattle.model.specs.declared.Place.{Place}
 use Rattle.model.specs.declared.Spare.{Spare}
-use Rattle.model.specs.declared.State.{State}
 use Rattle.arrays.specs.Tests.{Is, eqb-cases, clash}
 use Rattle.arrays.specs.Bytelist.{Bytes}
 use Rattle.arrays.specs.Image.{SpareFits}
-use Rattle.arrays.specs.Ranges.{InGeometry}
 use Rattle.arrays.specs.Whole.{whole-not-blank}
 use Rattle.front.specs.Kept.{kept-away}
 use Rattle.scanlog.specs.Occ.{occ}
 use Rattle.scanlog.specs.Log.{ofId-other}
 use Rattle.scanlog.specs.Logged.{Logged, logged-mark}
-use Rattle.scanlog.specs.Open.{Open, Opens, opens-set, open-noMark, open-length, open-mark}
-use Rattle.sequence.specs.Maps.{MapGood}
+use Rattle.scanlog.specs.Open.{opens-set, open-noMark, open-length, open-mark}
 use Rattle.sequence.specs.Contents.{Contents}
-use Rattle.sequence.specs.Places.{PlacesGood, placeAt, places-set, free-ok, Found, place-found}
-use Rattle.sequence.specs.Writes.{Laid, Writes, Enters, Entered, WholeSame, writeAt, laid-keep, enters-all}
-use Rattle.sequence.specs.Hold.{held-long}
-use Rattle.sequence.specs.Live.{Changing, Live, live-range, live-logged, scanned}
-use Rattle.sequence.specs.View.{View, no, yes, view-test, view-gate, view-cond, idle-only, Keeps, done-live, view-keeps}
-use Rattle.sequence.specs.Begin.{idle-calm}
+use Rattle.sequence.specs.Places.{placeAt, places-set, free-ok, Found, place-found}
+use Rattle.sequence.specs.Writes.{Laid, Writes, Enters, Entered, WholeSame, writeAt, laid-keep, enters-all, held-long}
+use Rattle.sequence.specs.Live.{Live, live-range, live-logged, scanned}
+use Rattle.sequence.specs.View.{View, yes, view-test, view-gate, view-cond, idle-only, Keeps, done-live, view-keeps, idle-calm}
 use Rattle.sequence.specs.Abort.{changing-close, found-apart, forget-live}
 use Rattle.sequence.specs.Lone.{changing-grow, room-clean}
-use Rattle.sequence.specs.Write.{PlaceIn, place-in, first-passes, good-name}
-use Rattle.sequence.specs.Append.{Appends, appends, appended, next-is-data, next-mapped, next-blank, next-free, append-whole, append-data, append-spare, append-keeps, append-tidy, append-scan, append-front, append-sound, append-contents}
+use Rattle.sequence.specs.PlaceIn.{PlaceIn, place-in, first-passes, good-name}
+use Rattle.sequence.specs.Append.{Appends, appends, appended, next-is-data, next-blank, next-free, append-whole, append-data, append-spare, append-keeps, append-tidy, append-scan, append-front, append-sound, append-contents}
 
 -- ---- the plan
 pub data Commits (w : World) (id : ℕ) : Plan → Type 0 where
@@ -70,6 +64,7 @@ commit-view id w =
 -- ---- the mark
 module _ (w : World) (b : Book) (h : Live w b) (id i : ℕ) (idle : isIdle (w .state .work) ≡ true) (f : Found (w .state .places) id i)
     (many : placeAt (w .state .places) i .count ≢ 0) (more : spent (w .state .version) 1 ≡ false) (short : zoneShort w ≡ false) where
+  -- geometry, places, the place of the change, its writes in the book, and the version of the mark
   abbrev g : Geometry
   g = w .state .geometry
 
@@ -100,6 +95,7 @@ module _ (w : World) (b : Book) (h : Live w b) (id i : ℕ) (idle : isIdle (w .s
   version-small : v ≤ 4294967294
   version-small = omega (arith, ltb-false 4294967294 v more)
 
+  -- the pages programmed before
   abbrev n : ℕ
   n = p .count - 1
 
@@ -116,6 +112,7 @@ module _ (w : World) (b : Book) (h : Live w b) (id i : ℕ) (idle : isIdle (w .s
       pick (inl e) = good-name (p .id) e
       pick (inr e) = absurd (some (e .0))
 
+  -- the spare area of the mark
   abbrev markSpare : Spare
   markSpare = record { lpn = heldPage p; cnt = p .count; id = p .id; ver = v; kind = 0; reserved = 0 }
 
@@ -129,6 +126,7 @@ module _ (w : World) (b : Book) (h : Live w b) (id i : ℕ) (idle : isIdle (w .s
     reserved = omega arith;
   }
 
+  -- its data
   abbrev markData : List ℕ
   markData = heldAt i (w .hold)
 
@@ -141,6 +139,7 @@ module _ (w : World) (b : Book) (h : Live w b) (id i : ℕ) (idle : isIdle (w .s
   clean : 0 < cleanPages w
   clean = room-clean w b h short
 
+  -- its page, the array after it, the pages of the change, and the map after it
   abbrev k : ℕ
   k = nextPage w
 
@@ -241,6 +240,7 @@ module _ (w : World) (b : Book) (h : Live w b) (id i : ℕ) (idle : isIdle (w .s
   unfolding entryOf
   mark-id = refl
 
+  -- the book after it
   abbrev told : Book
   told = record { pages = enterAll (b .pages) ws; changes = close id (b .changes) }
 

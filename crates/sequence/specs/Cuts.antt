@@ -1,30 +1,23 @@
 -- A cut in a call: the array is sound, with the writes of a commit or lone write in the pages of the book exactly when every due bit of its page turned.
-use mathlib.Core.Path.{_≡_, refl, sym, ap, _∙_, subst}
-use mathlib.Core.Logic.{_⊎_, inl, inr, _≢_}
-use mathlib.Core.Bool.{Bool, true, false, not, cond, _&&_, _||_}
-use Prim.Native.Nat.{ℕ, zero, suc, _+_, _*_, _≤_, _<_}
-use native.Mathlib.Omega.{arith}
-use mathlib.Core.List.{List, [], _∷_, _++_}
-use lib.ListN.{length, getD, set}
-use lib.Dec.{eqb, leb, ltb}
-use Rattle.model.specs.Page.{pageBytes}
+use mathlib.Core.Path.{_≡_, refl, ap, _∙_, subst}
+use mathlib.Core.Logic.{inl, inr}
+use mathlib.Core.Bool.{Bool, true, false, cond, _&&_}
+use Prim.Native.Nat.{ℕ}
+use mathlib.Core.List.{List}
+use lib.Dec.{ltb}
 use Rattle.model.specs.Bytes.{bytes}
-use Rattle.model.specs.Answers.{refused}
-use Rattle.model.specs.World.{World, Plan, Op, refuse, none, program, erase, applyOp, cutOp, turn, dueBits, turnedBits, everyTurned, programs}
-use Rattle.model.specs.Transactions.{placeOf, nextPage, dataBytes, heldAt, heldPage, withPlace, withVersion, heldOp, writePlan, lonePlan, markPlan, forgetPlan, planBegin, planWrite, planLone, planCommit, planAbort, readAnswer}
-use Rattle.model.specs.Strides.{copyStride, freeStride, planReclaim, withWork, withZones}
-use Rattle.model.specs.Commands.{Call, format, recover, begin, write, lone, commit, abort, read, checkpoint, reclaim, plan, carried, exec, Outcome}
-use Rattle.model.specs.Book.{Book, Content, Event, cutIn, tell, entering}
-use Rattle.model.specs.Sequence.{fits, Allowed, cutEvent, cutArray}
-use Rattle.model.specs.declared.Geometry.{Geometry}
+use Rattle.model.specs.World.{World, Plan, Op, refuse, none, program, applyOp, cutOp, turn, dueBits, turnedBits, everyTurned, programs}
+use Rattle.model.specs.Transactions.{placeOf, nextPage, heldOp, writePlan, lonePlan, forgetPlan, planBegin, planWrite, planLone, planCommit, planAbort}
+use Rattle.model.specs.Strides.{freeStride, planReclaim, withWork, withZones}
+use Rattle.model.specs.Commands.{Call, begin, write, lone, commit, abort, read, checkpoint, reclaim, plan, carried}
+use Rattle.model.specs.Book.{Book, tell, entering}
+use Rattle.model.specs.Sequence.{fits, cutEvent, cutArray}
 use Rattle.model.specs.declared.Place.{Place}
-use Rattle.model.specs.declared.State.{State}
-use Rattle.arrays.specs.Tests.{Is, eqb-cases, decide, and-right}
+use Rattle.arrays.specs.Tests.{Is, eqb-cases, and-right}
 use Rattle.arrays.specs.Bytelist.{Bytes, bytes-true}
-use Rattle.arrays.specs.Arrays.{ProgramOk, cut-done}
-use Rattle.sequence.specs.Places.{placeAt, Found, place-found}
-use Rattle.sequence.specs.Refused.{keeps-plan}
-use Rattle.sequence.specs.Sound.{Sound, Stored}
+use Rattle.arrays.specs.Arrays.{cut-done}
+use Rattle.sequence.specs.Places.{placeAt, place-found}
+use Rattle.sequence.specs.Sound.{Stored}
 use Rattle.sequence.specs.Live.{Live}
 use Rattle.sequence.specs.View.{View, no, yes, after}
 use Rattle.sequence.specs.Append.{Appends}
@@ -53,7 +46,7 @@ pub cut-refused : (c : Call) (w : World) (b : Book) (lets : List ℕ) → Live w
 cut-refused c w b lets h n e = cut-none c w b lets h (ap (λ (p : Plan). p .op) e)
 
 -- a call that enters nothing: whatever turned
-pub cut-quiet : (c : Call) (w : World) (b : Book) (lets : List ℕ) → entering c b ≡ b .pages → Stored (w .state .geometry) (cutArray c w lets) (b .pages) → CutKeeps c w b lets
+cut-quiet : (c : Call) (w : World) (b : Book) (lets : List ℕ) → entering c b ≡ b .pages → Stored (w .state .geometry) (cutArray c w lets) (b .pages) → CutKeeps c w b lets
 unfolding cutEvent tell
 cut-quiet c w b lets e s = rw (e, either (programs (plan c w .op) && everyTurned (dueBits (plan c w .state .geometry .pages) (plan c w .op) (w .array)) (turnedBits (plan c w .state .geometry .pages) (plan c w .op) lets (w .array)))) s
   where
@@ -62,7 +55,7 @@ cut-quiet c w b lets e s = rw (e, either (programs (plan c w .op) && everyTurned
     either false = refl
 
 -- a data page appended: all of it is there, or none
-pub cut-append : (c : Call) (w : World) (b b′ : Book) (lets : List ℕ) (p : Plan) → Live w b → plan c w ≡ p → Appends w b p → Live (after p w) b′ → b′ .pages ≡ entering c b → CutKeeps c w b lets
+cut-append : (c : Call) (w : World) (b b′ : Book) (lets : List ℕ) (p : Plan) → Live w b → plan c w ≡ p → Appends w b p → Live (after p w) b′ → b′ .pages ≡ entering c b → CutKeeps c w b lets
 unfolding cutArray cutEvent tell
 cut-append c w b b′ lets p h e a live pages = rw (e, a .does, a .geometry) (go (everyTurned (dueBits n op (w .array)) (turnedBits n op lets (w .array))) refl)
   where

@@ -2,6 +2,7 @@ pub mod Refused
 pub mod Maps
 pub mod Contents
 pub mod Places
+pub mod PlaceIn
 pub mod OpenBook
 pub mod Writes
 pub mod Sound
@@ -11,7 +12,6 @@ pub mod Begin
 pub mod Append
 pub mod Lone
 pub mod Abort
-pub mod Hold
 pub mod Write
 pub mod Commit
 pub mod Spared

@@ -1,21 +1,19 @@
 -- The live world: what holds of array, map, hold and state, with the book, at every point of a sequence where no cut lost the state.
 -- Nothing refuses it with 1, each logical page reads as the book has it, and a recovery leads to such a world.
-use mathlib.Core.Path.{_≡_, refl, sym, ap, _∙_, subst}
-use mathlib.Core.Logic.{_⊎_, inl, inr, _≢_}
-use mathlib.Core.Bool.{Bool, true, false, not, cond, _&&_}
-use Prim.Native.Nat.{ℕ, zero, suc, _+_, _-_, _*_, _/_, _≤_, _<_, max}
+use mathlib.Core.Path.{_≡_, refl, sym, _∙_, subst}
+use mathlib.Core.Logic.{_≢_}
+use mathlib.Core.Bool.{true, false}
+use Prim.Native.Nat.{ℕ, zero, suc, _<_}
 use native.Mathlib.Omega.{arith}
-use mathlib.Core.List.{List, [], _∷_, _++_}
+use mathlib.Core.List.{List, []}
 use lib.ListN.{length, getD, replicate, length-replicate}
 use lib.Seq.{length-take-le}
-use lib.Dec.{eqb, leb, ltb}
 use Rattle.model.specs.Lists.{any}
 use borrow.Author.Tests.{lt-ltb}
-use Rattle.model.specs.Geometry.{geometryOk, lengthsOk, mapOk}
-use Rattle.model.specs.Zones.{Entry, availableOf, unavailableOf, freeOf, zonesOk, scanIn, scanOf, hasId}
-use Rattle.model.specs.World.{World, Plan}
-use Rattle.model.specs.Frame.{freePlace, noPlace, placeOk, lentOk, placesOk, workOk, frameOk}
-use Rattle.model.specs.Commands.{recover, exec, Outcome}
+use Rattle.model.specs.Geometry.{geometryOk, lengthsOk}
+use Rattle.model.specs.Zones.{Entry, availableOf, unavailableOf, freeOf, zonesOk, scanOf}
+use Rattle.model.specs.World.{World}
+use Rattle.model.specs.Frame.{freePlace, noPlace, placeOk, lentOk, frameOk}
 use Rattle.model.specs.Book.{Book, writesOf}
 use Rattle.model.specs.Demand3.{Reads}
 use Rattle.model.specs.declared.Geometry.{Geometry}
@@ -23,20 +21,19 @@ use Rattle.model.specs.declared.Place.{Place}
 use Rattle.model.specs.declared.State.{State}
 use Rattle.model.specs.declared.Zones.{Zones}
 use Rattle.arrays.specs.Tests.{and-both}
-use Rattle.arrays.specs.Ranges.{InGeometry, geometry-in, InLengths, in-lengths}
+use Rattle.arrays.specs.Ranges.{InGeometry, geometry-in, in-lengths}
+use Rattle.arrays.specs.ZoneLists.{zonesOf-ok}
 use Rattle.front.specs.ZoneBack.{Fits, plain, plain-available, plain-unavailable, plain-free}
 use Rattle.front.specs.Written.{Saved}
 use Rattle.front.specs.Kept.{Kept, kept-work, kept-block, recovered-kept}
-use Rattle.front.specs.Front.{Front}
 use Rattle.front.specs.Recovered.{stateOf, front-state}
 use Rattle.scanlog.specs.Sublist.{sub-refl}
-use Rattle.scanlog.specs.Shape.{zonesOf-ok}
 use Rattle.scanlog.specs.Free.{Grown, grown-scan, grown-tidy}
 use Rattle.scanlog.specs.Logged.{Logged}
 use Rattle.scanlog.specs.Open.{Opens}
 use Rattle.scanlog.specs.Tidy.{Tidy}
-use Rattle.sequence.specs.Maps.{MapGood, good-ok}
-use Rattle.sequence.specs.Contents.{Contents, reads-content}
+use Rattle.sequence.specs.Maps.{good-ok}
+use Rattle.sequence.specs.Contents.{reads-content}
 use Rattle.sequence.specs.Places.{PlacesGood, placeAt, places-ok, free-ok}
 use Rattle.sequence.specs.OpenBook.{isOpen}
 use Rattle.sequence.specs.Writes.{Writes}
@@ -54,6 +51,7 @@ pub record Changing (xs map hold : List ℕ) (ps : List Place) (b : Book) : Type
 abbrev pub scanned : World → List Entry
 scanned w = scanOf (w .array) (w .state .geometry .pages) (w .state .zones)
 
+-- the invariant of a live world with the book
 pub record Live (w : World) (b : Book) : Type 0 where
   pub saved : Saved
   pub sound : Sound (w .state .geometry) (w .array) saved (w .map) (w .state .version) (b .pages)
@@ -73,7 +71,7 @@ module _ (w : World) (b : Book) (h : Live w b) where
   pub live-logged : Logged (w .state .geometry .logical) (h .saved .version) (h .saved .map) (scanned w) (w .map) (w .state .version)
   live-logged = rw (grown-scan (h .saved .zones) (w .state .zones) (h .grown) (w .array) (w .state .geometry .pages)) at (h .sound .logged)
 
-  pub live-lent : lentOk (w .state .geometry) w ≡ true
+  live-lent : lentOk (w .state .geometry) w ≡ true
   unfolding lentOk
   live-lent =
       let g = w .state .geometry in
@@ -103,8 +101,8 @@ free-at zero i = refl
 free-at (suc n) zero = refl
 free-at (suc n) (suc i) = free-at n i
 
-pub places-free : (g : Geometry) → PlacesGood g (replicate 8 freePlace)
-places-free g = record { ok = each 8; apart = λ i j l k n z. absurd (z (free-at 8 i)) }
+pub free-places-good : (g : Geometry) → PlacesGood g (replicate 8 freePlace)
+free-places-good g = record { ok = each 8; apart = λ i j l k n z. absurd (z (free-at 8 i)) }
   where
     each : (n i : ℕ) → i < length (replicate n freePlace) → placeOk g (getD (replicate n freePlace) i noPlace) ≡ true
     each zero i l = absurd (omega arith)
@@ -153,7 +151,7 @@ sound-live g xs c map version b hold h e = record {
   grown = grown-plain (c .zones);
   tidy = grown-tidy (plain (c .zones)) (c .zones) (plain-grown (c .zones)) g xs (plain-ok g (c .zones) (h .front .fits) (h .sane .zones)) (h .tidy);
   hold = e;
-  places = places-free g;
+  places = free-places-good g;
   opens = free-opens _;
   changing = free-changing xs map hold (closedBook b) refl;
 }

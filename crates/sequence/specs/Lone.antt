@@ -1,47 +1,41 @@
--- A lone write keeps the world live, and the book has its page; cut, it is there whole or not at all.
-use mathlib.Core.Path.{_≡_, refl, sym, ap, _∙_, subst}
-use mathlib.Core.Logic.{_⊎_, inl, inr, _≢_}
-use mathlib.Core.Bool.{Bool, true, false, not, cond, _&&_, _||_}
-use Prim.Native.Nat.{ℕ, zero, suc, _+_, _*_, _≤_, _<_}
+-- A lone write keeps the world live, and the book has its page.
+use mathlib.Core.Path.{_≡_, refl, sym, _∙_, subst}
+use mathlib.Core.Logic.{_≢_}
+use mathlib.Core.Bool.{true, false, not}
+use Prim.Native.Nat.{ℕ, _+_, _<_}
 use native.Mathlib.Omega.{arith}
 use native.Mathlib.Numerals.{add-one}
 use mathlib.Core.List.{List, [], _∷_, _++_}
-use lib.ListN.{length, getD, set, length-set}
+use lib.ListN.{length, set, length-set}
 use lib.Dec.{eqb, leb, ltb}
-use borrow.Author.Tests.{eqb-true, eq-eqb, ne-eqb, ltb-true, ltb-false, leb-true, leb-false, not-false}
-use Rattle.model.specs.Page.{pageBytes, wholeAt, blankAt}
+use borrow.Author.Tests.{eqb-true, ltb-false, leb-false, not-false}
+use Rattle.model.specs.Page.{wholeAt, blankAt}
 use Rattle.model.specs.Bytes.{bytes}
-use Rattle.model.specs.Zones.{Entry, entryOf, scanOf}
-use Rattle.model.specs.Recovery.{ofId}
+use Rattle.model.specs.Zones.{entryOf}
 use Rattle.model.specs.Answers.{refused}
-use Rattle.model.specs.World.{World, Plan, refuse, none, program, applyOp}
-use Rattle.model.specs.Frame.{noPlace, isIdle}
-use Rattle.model.specs.Transactions.{cleanPages, nextPage, zoneShort, spent, dataBytes, loneOp, loneMap, lonePlan, planLone, withVersion}
-use Rattle.model.specs.Commands.{Call, lone, plan, carried, exec, Outcome}
-use Rattle.model.specs.Book.{Book, Event, called, holds, tell, entering, changing}
+use Rattle.model.specs.World.{World, Plan}
+use Rattle.model.specs.Frame.{isIdle}
+use Rattle.model.specs.Transactions.{cleanPages, nextPage, zoneShort, spent, dataBytes, loneMap, lonePlan, planLone, withVersion}
+use Rattle.model.specs.Commands.{lone, plan, carried}
+use Rattle.model.specs.Book.{Book, holds, entering, changing}
 use Rattle.model.specs.Sequence.{fits}
-use Rattle.model.specs.declared.Geometry.{Geometry}
 use Rattle.model.specs.declared.Place.{Place}
 use Rattle.model.specs.declared.Spare.{Spare}
-use Rattle.model.specs.declared.State.{State}
-use Rattle.arrays.specs.Tests.{clash, and-left, and-right}
+use Rattle.arrays.specs.Tests.{clash, and-right}
 use Rattle.arrays.specs.Bytelist.{Bytes, bytes-true}
 use Rattle.arrays.specs.Image.{SpareFits}
-use Rattle.arrays.specs.Ranges.{InGeometry}
 use Rattle.arrays.specs.Whole.{whole-not-blank}
 use Rattle.front.specs.Kept.{kept-away}
 use Rattle.scanlog.specs.Occ.{occ, occ-no}
 use Rattle.scanlog.specs.Log.{ofId-other}
-use Rattle.scanlog.specs.Good.{Plain}
 use Rattle.scanlog.specs.Logged.{Logged, logged-lone}
 use Rattle.scanlog.specs.Open.{Opens, opens-same}
 use Rattle.sequence.specs.Maps.{good-set, occ-set}
 use Rattle.sequence.specs.Contents.{contents-set}
 use Rattle.sequence.specs.Places.{placeAt}
-use Rattle.sequence.specs.Writes.{Laid, Writes, WholeSame, writes-keep}
+use Rattle.sequence.specs.Writes.{Laid, WholeSame, writes-keep}
 use Rattle.sequence.specs.Live.{Changing, Live, live-range, live-logged, scanned}
-use Rattle.sequence.specs.View.{View, no, yes, view-test, view-gate, idle-only, Keeps, done-live, view-keeps}
-use Rattle.sequence.specs.Begin.{idle-calm}
+use Rattle.sequence.specs.View.{View, yes, view-test, view-gate, idle-only, Keeps, done-live, view-keeps, idle-calm}
 use Rattle.sequence.specs.Append.{Appends, appends, appended, next-is-data, next-mapped, next-blank, next-free, append-whole, append-data, append-keeps, append-tidy, append-scan, append-front, append-sound, append-contents}
 
 -- ---- the open changes while the array grows
@@ -71,6 +65,7 @@ loneSpare lpn v = record { lpn = lpn; cnt = 1; id = 0; ver = v; kind = 0; reserv
 
 module _ (w : World) (b : Book) (h : Live w b) (clean : 0 < cleanPages w) (lpn : ℕ) (d : List ℕ) (long : length d ≡ 512) (small : Bytes d)
     (low : lpn < w .state .geometry .logical) (more : spent (w .state .version) 1 ≡ false) where
+  -- its numbers fit their fields
   abbrev pub loneFits : SpareFits (loneSpare lpn (w .state .version + 1))
   loneFits =
       let r = live-range w b h in

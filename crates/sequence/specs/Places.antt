@@ -1,46 +1,33 @@
 -- Transaction places in range: each by itself, no identifier twice; what one new place leaves of that, and where an identifier is found.
-use mathlib.Core.Path.{_≡_, refl, sym, ap, _∙_, subst}
-use mathlib.Core.Logic.{_⊎_, inl, inr, _≢_}
-use mathlib.Core.Bool.{Bool, true, false, not, cond, _&&_, _||_}
-use Prim.Native.Nat.{ℕ, zero, suc, _+_, _-_, _≤_, _<_}
+use mathlib.Core.Path.{_≡_, refl, sym, ap, _∙_}
+use mathlib.Core.Logic.{inl, inr, _≢_}
+use mathlib.Core.Bool.{true, false, not, cond, _&&_, _||_}
+use Prim.Native.Nat.{ℕ, suc, _<_}
 use native.Mathlib.Omega.{arith}
-use mathlib.Core.List.{List, [], _∷_, _++_}
-use lib.ListN.{length, set, getD, replicate, length-set}
+use mathlib.Core.List.{List, [], _∷_}
+use lib.ListN.{length, set, getD, length-set}
 use lib.Seq.{getD-set-same, getD-set-other}
-use lib.Dec.{eqb, leb, ltb}
-use borrow.Author.Tests.{eqb-true, eqb-false, eq-eqb, ne-eqb, leb-true, leb-false, not-true}
+use lib.Dec.{eqb, leb}
+use borrow.Author.Tests.{eqb-true, eqb-false, ne-eqb, leb-false, not-true}
 use Rattle.model.specs.Lists.{all, any, allTails, find}
 use Rattle.model.specs.Zones.{hasId, active}
 use Rattle.model.specs.Frame.{noPlace, freePlace, badId, placeOk, alone, placesOk}
 use Rattle.model.specs.Transactions.{placeOf, begun}
 use Rattle.model.specs.declared.Geometry.{Geometry}
 use Rattle.model.specs.declared.Place.{Place}
-use Rattle.arrays.specs.Tests.{Is, eqb-cases, clash, decide, and-left, and-right, and-both, or-left, or-right, all-nil, all-cons, none-all, all-at, find-le, find-passes}
-use Rattle.scanlog.specs.Open.{places-apart}
+use Rattle.arrays.specs.Tests.{Is, eqb-cases, clash, and-both, or-left, or-right, none-all, all-at, find-passes, all-by-at}
 
 -- ---- definitions
 -- place i
 abbrev pub placeAt : List Place → ℕ → Place
 placeAt ps i = getD ps i noPlace
 
+-- each place is in range, and no two that are not free share an identifier
 pub record PlacesGood (g : Geometry) (ps : List Place) : Type 0 where
   pub ok : (i : ℕ) → i < length ps → placeOk g (placeAt ps i) ≡ true
   pub apart : (i j : ℕ) → i < length ps → j < length ps → i ≢ j → placeAt ps i .id ≢ 0 → placeAt ps j .id ≢ placeAt ps i .id
 
 -- ---- laws
-pub all-by-at : {A : Type 0} (p : A → Bool) (d : A) (xs : List A) → ((i : ℕ) → i < length xs → p (getD xs i d) ≡ true) → all p xs ≡ true
-all-by-at p d [] h = all-nil p
-all-by-at p d (x ∷ xs) h = all-cons p x xs (h 0 (omega arith)) (all-by-at p d xs (λ i l. h (suc i) (omega arith)))
-
-each-ok : (g : Geometry) (ps : List Place) → placesOk g ps ≡ true → (i : ℕ) → i < length ps → placeOk g (placeAt ps i) ≡ true
-unfolding placesOk allTails
-each-ok g [] h i l = absurd (omega arith)
-each-ok g (p ∷ ps) h zero l = and-left (placeOk g p) (alone p ps) (and-left (placeOk g p && alone p ps) _ h)
-each-ok g (p ∷ ps) h (suc i) l = each-ok g ps (and-right (placeOk g p && alone p ps) _ h) i (omega arith)
-
-pub ok-places : (g : Geometry) (ps : List Place) → placesOk g ps ≡ true → PlacesGood g ps
-ok-places g ps h = record { ok = each-ok g ps h; apart = places-apart g ps h }
-
 apart-alone : (p : Place) (ps : List Place) → (p .id ≢ 0 → (j : ℕ) → j < length ps → placeAt ps j .id ≢ p .id) → alone p ps ≡ true
 unfolding alone
 apart-alone p ps h = go (eqb-cases (p .id) 0)

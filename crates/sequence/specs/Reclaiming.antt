@@ -1,68 +1,60 @@
 -- A stride of reclaim keeps the world live with the same book: a copy as a lone write, or the erase of a block on which nothing is mapped.
 -- Cut at any bit, the array is sound with the same pages of the book.
-use mathlib.Core.Path.{_≡_, refl, sym, ap, _∙_, subst}
+use mathlib.Core.Path.{_≡_, refl, sym, _∙_, subst}
 use mathlib.Core.Logic.{_⊎_, inl, inr, _≢_}
-use mathlib.Core.Bool.{Bool, true, false, not, cond, _&&_, _||_}
-use Prim.Native.Nat.{ℕ, zero, suc, _+_, _-_, _*_, _≤_, _<_}
+use mathlib.Core.Bool.{Bool, true, false, _||_}
+use Prim.Native.Nat.{ℕ, suc, _+_, _-_, _*_, _≤_, _<_}
 use native.Mathlib.Omega.{arith}
 use native.Mathlib.Nat.{mul-le-mul-right}
-use mathlib.Core.List.{List, [], _∷_, _++_}
-use lib.ListN.{length, getD, set, length-set}
+use mathlib.Core.List.{List, [], _∷_}
+use lib.ListN.{length, getD, length-set}
 use lib.Dec.{eqb, leb, ltb}
-use borrow.Author.Tests.{eqb-true, eqb-false, ltb-true, ltb-false, leb-true, leb-false, le-ltb}
+use borrow.Author.Tests.{eqb-true, eqb-false, ltb-false, leb-false, le-ltb}
 use Rattle.model.specs.Lists.{find, count}
 use Rattle.model.specs.Page.{pageAt, pageBytes, dataAt, wholeAt}
 use Rattle.model.specs.Geometry.{unmapped, dataBlock}
-use Rattle.model.specs.Zones.{Entry, scanOf, checkpointed, freed, availableOf, cleanIn}
 use Rattle.model.specs.Answers.{refused}
-use Rattle.model.specs.World.{World, Plan, Op, refuse, none, program, erase, applyOp, cutOp, turn, dueBits, turnedBits, everyTurned}
-use Rattle.model.specs.Frame.{frameOk, isIdle}
-use Rattle.model.specs.Checkpoint.{Found, nothing, at}
+use Rattle.model.specs.World.{World, Plan, erase, applyOp, cutOp}
+use Rattle.model.specs.Frame.{isIdle}
+use Rattle.model.specs.Checkpoint.{Found, at}
 use Rattle.model.specs.Transactions.{cleanPages, nextPage, spent, dataBytes, loneMap, withVersion}
-use Rattle.model.specs.Strides.{withWork, withZones, isReclaim, mappedIn, pickFrom, picked, lowestFrom, copyStride, freeStride, reclaimStride, planReclaim}
-use Rattle.model.specs.Commands.{Call, reclaim, plan, carried, exec, Outcome}
-use Rattle.model.specs.Book.{Book, Content, Event, called, tell, entering, changing}
-use Rattle.model.specs.Sequence.{cutArray}
+use Rattle.model.specs.Strides.{withWork, withZones, isReclaim, mappedIn, picked, lowestFrom, copyStride, freeStride, reclaimStride, planReclaim}
+use Rattle.model.specs.Commands.{reclaim, plan, carried}
+use Rattle.model.specs.Book.{Book, entering, changing}
 use Rattle.model.specs.declared.Geometry.{Geometry}
-use Rattle.model.specs.declared.Place.{Place}
 use Rattle.model.specs.declared.Spare.{Spare}
-use Rattle.model.specs.declared.State.{State}
-use Rattle.model.specs.declared.Zones.{Zones}
 use Rattle.model.specs.declared.Work.{Work}
 use Rattle.model.specs.declared.Work.the-variants.{Idle, Format, Checkpoint, Reclaim}
 use Rattle.arrays.specs.Tests.{Is, eqb-cases, clash, decide}
 use Rattle.arrays.specs.Bytelist.{Bytes}
-use Rattle.arrays.specs.Pages.{PageFits, BlockFits, Outside, length-data, bytes-data, data-same}
-use Rattle.arrays.specs.Ranges.{InGeometry, block-is, block-most, page-most, page-small, any-page-fits, data-page-fits, data-block-fits}
+use Rattle.arrays.specs.Pages.{BlockFits, Outside, length-data, bytes-data, data-same}
+use Rattle.arrays.specs.Ranges.{block-is, block-most, page-small, any-page-fits, data-block-fits}
 use Rattle.arrays.specs.Image.{SpareFits}
 use Rattle.arrays.specs.Whole.{whole-not-blank}
 use Rattle.arrays.specs.Ops.{length-apply, length-cut, bytes-apply, bytes-cut, program-other, erase-other, erase-others, cut-erase-other, cut-erase-others}
-use Rattle.arrays.specs.Arrays.{Leans, leans-apply, leans-cut, cut-done}
-use Rattle.front.specs.Local.{SameFront}
-use Rattle.front.specs.Front.{Front, front-away}
-use Rattle.front.specs.Kept.{Kept, calm, kept-away}
+use Rattle.arrays.specs.Arrays.{leans-apply, leans-cut}
+use Rattle.front.specs.Newest.{SameFront}
+use Rattle.front.specs.Front.{front-away}
+use Rattle.front.specs.Kept.{calm, kept-away}
 use Rattle.scanlog.specs.Occ.{occ, occ-nil, occ-cons, occ-no}
-use Rattle.scanlog.specs.Shape.{Unlisted, checkpointed-unlisted}
-use Rattle.scanlog.specs.Pick.{Fewest, Picked, inBlock, block-inside, inside-block, picked-is, lowest, lowest-inside, lowest-found, lowest-at}
-use Rattle.scanlog.specs.Reclaim.{Going, GoingOn, going-unlisted, going-copy, stride-goes, stride-going}
-use Rattle.scanlog.specs.Logged.{Logged}
-use Rattle.scanlog.specs.Open.{Opens}
-use Rattle.scanlog.specs.Tidy.{Tidy}
-use Rattle.scanlog.specs.Free.{Grown, grown-freed, tidy-freed, scan-freed}
+use Rattle.scanlog.specs.Shape.{Unlisted}
+use Rattle.scanlog.specs.Pick.{Fewest, Picked, inBlock, inside-block, picked-is, lowest, lowest-inside, lowest-found, lowest-at}
+use Rattle.scanlog.specs.Reclaim.{GoingOn, going-unlisted, going-copy, stride-goes, stride-going}
+use Rattle.scanlog.specs.Free.{grown-freed, tidy-freed, scan-freed}
 use Rattle.sequence.specs.Refused.{keeps-block}
-use Rattle.sequence.specs.Maps.{MapGood, good-set, entry-in}
-use Rattle.sequence.specs.Contents.{Contents, contents-copy, mapped-whole}
+use Rattle.sequence.specs.Maps.{good-set, entry-in}
+use Rattle.sequence.specs.Contents.{contents-copy, mapped-whole}
 use Rattle.sequence.specs.Places.{placeAt}
 use Rattle.sequence.specs.Sound.{Sound, Stored}
-use Rattle.sequence.specs.Live.{Changing, Live, live-range, live-logged, scanned}
-use Rattle.sequence.specs.View.{View, no, yes, view-test, view-gate, view-cond, Keeps, done-live, more-live, view-keeps}
+use Rattle.sequence.specs.Live.{Live, live-range, scanned}
+use Rattle.sequence.specs.View.{View, no, yes, view-gate, view-cond, Keeps, done-live, more-live, view-keeps}
 use Rattle.sequence.specs.Append.{appended, next-is-data, next-mapped, next-blank, next-free, append-ok, append-whole, append-data, append-keeps, append-tidy, append-scan, append-front, append-sound, append-contents, Appends, appends}
 use Rattle.sequence.specs.Lone.{changing-grow, laid-still, loneSpare, loneFits, lone-logged, lone-opens}
 use Rattle.sequence.specs.Spared.{Spared, spared-changing, spared-sound, block-spares}
 
 -- ---- the plan
 -- nothing is under way but a reclaim
-pub reclaim-calm : (k : Work) → (isIdle k || isReclaim k) ≡ true → calm k ≡ true
+reclaim-calm : (k : Work) → (isIdle k || isReclaim k) ≡ true → calm k ≡ true
 reclaim-calm Idle h = refl
 reclaim-calm (Format k) h = h
 reclaim-calm (Checkpoint k) h = h
@@ -106,6 +98,7 @@ none-in p c (x ∷ map) k o z = go (eqb-cases k x) (inBlock p c x) refl (none-in
 
 -- ---- the picked block
 module _ (w : World) (b : Book) (h : Live w b) (c : ℕ) (on : GoingOn w c) where
+  -- geometry and array
   abbrev g : Geometry
   g = w .state .geometry
 
@@ -126,6 +119,7 @@ module _ (w : World) (b : Book) (h : Live w b) (c : ℕ) (on : GoingOn w c) wher
 
   -- ---- a copy
   module _ (calm′ : calm (w .state .work) ≡ true) (some : 0 < mappedIn (w .map) (g .pages) c) where
+    -- the page that is copied, and the logical page that it is
     abbrev j : ℕ
     j = lowest (w .map) (g .pages) c some
 
@@ -150,6 +144,7 @@ module _ (w : World) (b : Book) (h : Live w b) (c : ℕ) (on : GoingOn w c) wher
     j-whole : wholeAt xs j ≡ true
     j-whole = mapped-whole xs (w .map) (b .pages) (h .sound .contents) j j-mapped (subst (λ (x : ℕ). 0 < occ x (w .map)) leads (entry-in (w .map) lpn low))
 
+    -- its data
     abbrev d : List ℕ
     d = dataAt xs j
 
@@ -168,12 +163,14 @@ module _ (w : World) (b : Book) (h : Live w b) (c : ℕ) (on : GoingOn w c) wher
     more : spent (w .state .version) 1 ≡ false
     more = le-ltb 4294967294 (w .state .version + 1) (omega (arith, on .numbers))
 
+    -- the spare area of the copy
     abbrev s : Spare
     s = loneSpare lpn (w .state .version + 1)
 
     fit : SpareFits s
     fit = loneFits w b h clean lpn d long small logical-low more
 
+    -- its page, and the array after it
     abbrev k : ℕ
     k = nextPage w
 
@@ -231,13 +228,14 @@ module _ (w : World) (b : Book) (h : Live w b) (c : ℕ) (on : GoingOn w c) wher
         let m : 2 * g .pages ≤ c * g .pages = mul-le-mul-right (g .pages) (few .low) in
         o i (inl (omega arith))
 
+    -- the array after it
     abbrev erased : List ℕ
     erased = applyOp (g .pages) (erase c) xs
 
     spared : Spared g xs erased (w .state .zones) (w .map)
     spared = block-spares g xs erased (w .state .zones) (w .map) c unlisted (erase-other (g .pages) xs c inside) (erase-others (g .pages) xs c inside) outside
 
-    pub free-live : Live (carried (freeStride c w) w .world) b
+    free-live : Live (carried (freeStride c w) w .world) b
     unfolding carried freeStride withWork withZones
     free-live = record {
       saved = h .saved;

@@ -13,7 +13,7 @@ use Rattle.model.specs.Recovery.{pagesGood}
 use Rattle.model.specs.Transactions.{unless, planBegin, planWrite, planLone, planCommit, planAbort, writePlan, lonePlan, markPlan, forgetPlan}
 use Rattle.model.specs.Strides.{planCheckpoint, planReclaim, planFormat, mapStride, zoneStride, pageStride, otherStride, firstStride, checkpointStride, copyStride, freeStride, reclaimStride, formatMore, formatLast, formatStride}
 use Rattle.model.specs.Recover.{planRecover, recoverFrom, recoverPlan, entriesAt, zonesAt, scannedAt}
-use Rattle.model.specs.Commands.{Call, format, recover, begin, write, lone, commit, abort, read, checkpoint, reclaim, plan, carried, exec, Outcome}
+use Rattle.model.specs.Commands.{Call, format, recover, begin, write, lone, commit, abort, read, checkpoint, reclaim, plan, carried, exec}
 use Rattle.model.specs.declared.Geometry.{Geometry}
 use Rattle.model.specs.declared.State.{State}
 use Rattle.model.specs.declared.Work.{Work}

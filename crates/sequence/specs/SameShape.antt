@@ -1,5 +1,5 @@
 -- No command but format and recover alters the geometry.
-use mathlib.Core.Path.{_≡_, refl, ap}
+use mathlib.Core.Path.{_≡_, refl}
 use mathlib.Core.Bool.{Bool, true, false, cond}
 use Prim.Native.Nat.{ℕ}
 use mathlib.Core.List.{List}
@@ -8,7 +8,6 @@ use Rattle.model.specs.World.{World, Op, Plan, refuse}
 use Rattle.model.specs.Checkpoint.{Found, nothing, at}
 use Rattle.model.specs.Transactions.{unless, withPlace, withVersion, planBegin, planWrite, planLone, planCommit, planAbort, writePlan, lonePlan, markPlan, forgetPlan}
 use Rattle.model.specs.Strides.{withWork, withZones, withNumber, planCheckpoint, planReclaim, mapStride, zoneStride, pageStride, otherStride, firstStride, checkpointStride, copyStride, freeStride, reclaimStride}
-use Rattle.model.specs.declared.Geometry.{Geometry}
 use Rattle.model.specs.declared.State.{State}
 use Rattle.model.specs.declared.Work.{Work}
 use Rattle.model.specs.declared.Work.the-variants.{Idle, Format, Checkpoint, Reclaim}

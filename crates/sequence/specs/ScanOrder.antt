@@ -1,41 +1,37 @@
 -- "in scan order, which on a layer's own array is write order": a data page that a call programs is scanned after all that were scanned before,
 -- and no call changes the order of the others.
 use mathlib.Core.Path.{_≡_, refl, sym, ap, _∙_, subst}
-use mathlib.Core.Logic.{_⊎_, inl, inr}
-use mathlib.Core.Bool.{Bool, true, false, false≢true, cond}
-use Prim.Native.Nat.{ℕ, _+_, _-_, _*_, _≤_, _<_}
+use mathlib.Core.Logic.{inl, inr}
+use mathlib.Core.Bool.{true, false, false≢true}
+use Prim.Native.Nat.{ℕ}
 use native.Mathlib.Omega.{arith}
 use mathlib.Core.List.{List, [], _∷_, _++_, append-nil}
-use lib.ListN.{length}
-use lib.Dec.{eqb, ltb}
+use lib.Dec.{ltb}
 use Rattle.model.specs.Lists.{keep}
 use Rattle.model.specs.Bytes.{bytes}
-use Rattle.model.specs.Page.{spareOf, pageBytes}
-use Rattle.model.specs.Geometry.{dataPage, mapPages}
+use Rattle.model.specs.Page.{spareOf}
+use Rattle.model.specs.Geometry.{dataPage}
 use Rattle.model.specs.Zones.{Entry, entryOf, scanOf}
-use Rattle.model.specs.World.{World, Op, none, program, erase, programs, Plan, refuse, applyOp}
-use Rattle.model.specs.Transactions.{placeOf, nextPage, cleanPages, dataBytes, heldOp, withPlace, withVersion, planBegin, planWrite, planLone, planCommit, planAbort, writePlan, lonePlan, markPlan, forgetPlan}
-use Rattle.model.specs.Strides.{withWork, withZones, withNumber, planCheckpoint, planReclaim, copyStride, freeStride, mapStride, zoneStride, otherStride}
-use Rattle.model.specs.Commands.{Call, format, recover, begin, write, lone, commit, abort, read, checkpoint, reclaim, plan, carried, exec, Outcome}
+use Rattle.model.specs.World.{World, Op, none, program, erase, programs, Plan, applyOp}
+use Rattle.model.specs.Transactions.{placeOf, nextPage, heldOp, withPlace, writePlan, lonePlan, forgetPlan}
+use Rattle.model.specs.Strides.{planCheckpoint, freeStride}
+use Rattle.model.specs.Commands.{Call, format, recover, begin, write, lone, commit, abort, read, checkpoint, reclaim, plan, carried, exec}
 use Rattle.model.specs.Book.{Book}
 use Rattle.model.specs.Sequence.{fits, Allowed}
 use Rattle.model.specs.declared.Geometry.{Geometry}
 use Rattle.model.specs.declared.Place.{Place}
-use Rattle.model.specs.declared.State.{State}
-use Rattle.model.specs.declared.Zones.{Zones}
-use Rattle.arrays.specs.Tests.{Is, eqb-cases, decide, and-right}
-use Rattle.arrays.specs.Bytelist.{Bytes, bytes-true}
+use Rattle.arrays.specs.Tests.{Is, eqb-cases, and-right}
+use Rattle.arrays.specs.Bytelist.{bytes-true}
 use Rattle.arrays.specs.Ranges.{page-least}
-use Rattle.arrays.specs.Arrays.{ProgramOk}
 use Rattle.front.specs.ZoneBack.{plain}
-use Rattle.front.specs.Away.{InFront}
+use Rattle.front.specs.Blocks.{InFront}
 use Rattle.front.specs.Recovered.{stateOf}
-use Rattle.front.specs.CheckpointStrides.{Stride, refuses, erases, maps, zones, checkpoint-stride}
-use Rattle.front.specs.CheckpointCalls.{stride-in-front}
+use Rattle.front.specs.CheckpointStrides.{zones, checkpoint-stride}
+use Rattle.front.specs.CheckpointOps.{stride-in-front}
 use Rattle.scanlog.specs.Sublist.{Sublist, sub-refl, sub-nil, sub-append}
 use Rattle.scanlog.specs.Free.{grown-scan}
 use Rattle.scanlog.specs.Tidy.{next-data, scan-order-is-write-order}
-use Rattle.sequence.specs.Places.{placeAt, Found, place-found}
+use Rattle.sequence.specs.Places.{placeAt, place-found}
 use Rattle.sequence.specs.Refused.{refused-same, read-same, keeps-plan, recover-none}
 use Rattle.sequence.specs.Sound.{sound-recovers}
 use Rattle.sequence.specs.Live.{Live, scanned, grown-plain}

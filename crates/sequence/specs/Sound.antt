@@ -1,28 +1,22 @@
 -- The sound array: what holds of the array at every point of a sequence, cut or not. A recovery of it is done, and leads each logical page
 -- to what the book has.
-use mathlib.Core.Path.{_≡_, refl, sym, ap, ap₂, _∙_, subst}
-use mathlib.Core.Logic.{_⊎_, inl, inr, _≢_}
-use mathlib.Core.Bool.{Bool, true, false, not, cond, _&&_}
-use Prim.Native.Nat.{ℕ, zero, suc, _+_, _-_, _*_, _/_, _≤_, _<_, max}
-use native.Mathlib.Omega.{arith}
-use mathlib.Core.List.{List, [], _∷_, _++_}
-use lib.ListN.{length, take, getD, replicate}
-use lib.Dec.{eqb, leb, ltb}
-use Rattle.model.specs.Page.{pageAt, blankAt, wholeAt}
-use Rattle.model.specs.Geometry.{geometryOk, lengthsOk, mapOk, mapPages}
-use Rattle.model.specs.Zones.{availableOf, unavailableOf, freeOf, zonesOk, scanOf}
-use Rattle.model.specs.Recovery.{top}
-use Rattle.model.specs.World.{World, Plan, applyOp}
+use mathlib.Core.Path.{_≡_, ap₂, _∙_}
+use mathlib.Core.Bool.{true}
+use Prim.Native.Nat.{ℕ, _*_, _≤_}
+use mathlib.Core.List.{List}
+use lib.ListN.{length}
+use Rattle.model.specs.Geometry.{geometryOk, lengthsOk}
+use Rattle.model.specs.Zones.{scanOf}
+use Rattle.model.specs.World.{World, applyOp}
 use Rattle.model.specs.Frame.{lentOk}
-use Rattle.model.specs.Recover.{planRecover, recoverPlan, recoveredMap, recoveredState}
-use Rattle.model.specs.Commands.{recover, plan, carried, exec, Outcome}
+use Rattle.model.specs.Recover.{recoverPlan}
+use Rattle.model.specs.Commands.{recover, plan, carried, exec}
 use Rattle.model.specs.Book.{Content}
 use Rattle.model.specs.declared.Geometry.{Geometry}
 use Rattle.model.specs.declared.State.{State}
-use Rattle.model.specs.declared.Zones.{Zones}
 use Rattle.arrays.specs.Tests.{and-both}
 use Rattle.arrays.specs.Bytelist.{Bytes}
-use Rattle.arrays.specs.Ranges.{InGeometry, geometry-in, InLengths, in-lengths}
+use Rattle.arrays.specs.Ranges.{InGeometry, geometry-in, in-lengths}
 use Rattle.arrays.specs.Arrays.{Leans}
 use Rattle.front.specs.Written.{Saved, Sane}
 use Rattle.front.specs.Front.{Front}

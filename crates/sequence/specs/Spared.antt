@@ -1,46 +1,42 @@
 -- A change of the array that spares the listed blocks and the mapped pages, in a front block or a checkpointed one: zones, scan, contents and
 -- open changes are as they were.
-use mathlib.Core.Path.{_≡_, refl, sym, ap, _∙_, subst}
+use mathlib.Core.Path.{_≡_, _∙_, subst}
 use mathlib.Core.Logic.{_⊎_, inl, inr, _≢_}
-use mathlib.Core.Bool.{Bool, true, false, cond, _&&_}
+use mathlib.Core.Bool.{Bool, true, false}
 use Prim.Native.Nat.{ℕ, zero, suc, _+_, _-_, _*_, _≤_, _<_}
 use native.Mathlib.Omega.{arith}
 use native.Mathlib.Nat.{mul-le-mul-right}
 use mathlib.Core.List.{List, [], _∷_, _++_}
 use lib.ListN.{length, getD}
-use lib.Dec.{eqb, leb, ltb}
+use lib.Dec.{eqb}
 use Rattle.model.specs.Lists.{those, keep}
-use Rattle.model.specs.Page.{pageAt, wholeAt, spareOf}
-use Rattle.model.specs.Geometry.{unmapped, dataBlock, dataPage}
+use Rattle.model.specs.Page.{pageAt, wholeAt}
+use Rattle.model.specs.Geometry.{unmapped, dataBlock}
 use Rattle.model.specs.Zones.{Entry, entryOf, entryAt, wholeFrom, scanIn, scanOf, availableOf, unavailableOf, freeOf, zonesOk}
 use Rattle.model.specs.Recovery.{ofId}
-use Rattle.model.specs.World.{World}
-use Rattle.model.specs.Frame.{noPlace}
-use Rattle.model.specs.Book.{Book, Write, Content, writesOf}
+use Rattle.model.specs.Book.{Book, Write, Content}
 use Rattle.model.specs.declared.Geometry.{Geometry}
 use Rattle.model.specs.declared.Place.{Place}
 use Rattle.model.specs.declared.Zones.{Zones}
 use Rattle.arrays.specs.Tests.{Is, eqb-cases, decide}
 use Rattle.arrays.specs.Bytelist.{Bytes}
 use Rattle.arrays.specs.Pages.{SamePages, OtherBlock, Outside, whole-same, data-same}
-use Rattle.arrays.specs.Ranges.{InGeometry, block-least, page-least}
+use Rattle.arrays.specs.Ranges.{block-least, page-least}
 use Rattle.arrays.specs.Arrays.{Leans}
-use Rattle.arrays.specs.Scan.{Each, SameBlocks, each-map, each-append, entry-whole, entry-none, blank-stays}
-use Rattle.front.specs.Away.{SameData}
+use Rattle.arrays.specs.Scan.{SameBlocks, each-map, each-append, entry-whole, entry-none, blank-stays}
+use Rattle.front.specs.Blocks.{SameData}
 use Rattle.front.specs.Written.{Saved}
 use Rattle.front.specs.Front.{Front}
 use Rattle.scanlog.specs.Occ.{occ}
-use Rattle.scanlog.specs.Sublist.{Sublist}
 use Rattle.scanlog.specs.Shape.{Unlisted, listed-block}
 use Rattle.scanlog.specs.Order.{each-sub, is-each, away, order-stays}
-use Rattle.scanlog.specs.Logged.{Logged}
 use Rattle.scanlog.specs.Open.{Open, Opens, openEntry, laid}
 use Rattle.scanlog.specs.Tidy.{Tidy, scanOf-same}
-use Rattle.scanlog.specs.Free.{Grown, grown-tidy}
+use Rattle.scanlog.specs.Free.{Grown}
 use Rattle.sequence.specs.Maps.{MapGood}
 use Rattle.sequence.specs.Contents.{Contents, contents-keep}
 use Rattle.sequence.specs.Places.{placeAt}
-use Rattle.sequence.specs.Writes.{Laid, Writes}
+use Rattle.sequence.specs.Writes.{Writes}
 use Rattle.sequence.specs.Sound.{Sound}
 use Rattle.sequence.specs.Live.{Changing}
 
@@ -128,7 +124,7 @@ module _ (g : Geometry) (xs ys : List ℕ) (z : Zones) (map : List ℕ) (s : Spa
   spared-contents ps c = contents-keep xs ys map ps (λ k n o w. s .mapped k n o) c
 
   -- the zones of the checkpoint are spared with the live ones
-  pub spared-saved : (z₀ : Zones) → Grown z₀ z → Spared g xs ys z₀ map
+  spared-saved : (z₀ : Zones) → Grown z₀ z → Spared g xs ys z₀ map
   spared-saved z₀ h = record {
     available = rw (h .available) (s .available);
     unavailable = rw (h .unavailable) (s .unavailable);
@@ -137,7 +133,7 @@ module _ (g : Geometry) (xs ys : List ℕ) (z : Zones) (map : List ℕ) (s : Spa
   }
 
   -- the pages of an open change
-  pub spared-page : (p : Place) → Open p (scanOf xs (g .pages) z) → (j : ℕ) → suc j < p .count → pageAt ys (getD (p .ppns) j 0) ≡ pageAt xs (getD (p .ppns) j 0)
+  spared-page : (p : Place) → Open p (scanOf xs (g .pages) z) → (j : ℕ) → suc j < p .count → pageAt ys (getD (p .ppns) j 0) ≡ pageAt xs (getD (p .ppns) j 0)
   unfolding scanOf ofId
   spared-page p o j l =
       let k : Entries (Kept xs ys) (scanIn xs (g .pages) (unavailableOf z ++ availableOf z))

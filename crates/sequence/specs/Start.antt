@@ -1,19 +1,17 @@
 -- The start of a sequence: what a format leaves when it has finished is a live world with the blank book.
-use mathlib.Core.Path.{_≡_, refl, sym, ap, _∙_, subst}
-use mathlib.Core.Logic.{_⊎_, inl, inr, _≢_}
-use mathlib.Core.Bool.{Bool, true, false, _&&_}
-use Prim.Native.Nat.{ℕ, zero, suc, _+_, _-_, _*_, _≤_, _<_}
+use mathlib.Core.Path.{_≡_, refl, ap, _∙_}
+use mathlib.Core.Bool.{true}
+use Prim.Native.Nat.{ℕ, suc, _+_, _*_, _≤_, _<_}
 use native.Mathlib.Omega.{arith}
 use native.Mathlib.Nat.{mul-le-mul-right}
-use mathlib.Core.List.{List, [], _∷_, _++_}
+use mathlib.Core.List.{List}
 use lib.ListN.{length, replicate, length-replicate}
-use Rattle.model.specs.Page.{blankAt}
-use Rattle.model.specs.Geometry.{geometryOk, lengthsOk, unmapped, blankMap, mapPages, dataBlock}
-use Rattle.model.specs.Zones.{Entry, usedIn, scanOf, formatZones, zonesOk}
+use Rattle.model.specs.Geometry.{geometryOk, lengthsOk, unmapped, blankMap, dataBlock}
+use Rattle.model.specs.Zones.{usedIn, formatZones, zonesOk}
 use Rattle.model.specs.World.{World}
-use Rattle.model.specs.Frame.{freePlace, lentOk, freshState}
+use Rattle.model.specs.Frame.{lentOk, freshState}
 use Rattle.model.specs.Strides.{withZones, withNumber}
-use Rattle.model.specs.Book.{Book, never, blank}
+use Rattle.model.specs.Book.{blank}
 use Rattle.model.specs.Sequence.{Formatted}
 use Rattle.model.specs.declared.Geometry.{Geometry}
 use Rattle.model.specs.declared.State.{State}
@@ -21,18 +19,17 @@ use Rattle.model.specs.declared.Work.the-variants.{Idle}
 use Rattle.arrays.specs.Tests.{and-left, and-both}
 use Rattle.arrays.specs.Ranges.{InGeometry, in-lengths, block-least, block-most, maps-few}
 use Rattle.arrays.specs.Used.{used-in-none}
-use Rattle.front.specs.Base.{lent-geometry, lent-lengths}
+use Rattle.arrays.specs.Frame.{lent-geometry, lent-lengths}
 use Rattle.front.specs.Kept.{Kept}
 use Rattle.front.specs.FormatStrides.{formatSaved, Fresh}
 use Rattle.front.specs.FormatCalls.{Starts, stateDone, formatted, starts-kept, format-sane, format-finishes}
-use Rattle.scanlog.specs.Logged.{Logged, logged-start}
-use Rattle.scanlog.specs.Tidy.{Tidy}
+use Rattle.scanlog.specs.Logged.{logged-start}
 use Rattle.scanlog.specs.Free.{grown-same}
 use Rattle.scanlog.specs.Start.{format-ok, tidy-format, scan-format}
 use Rattle.sequence.specs.Maps.{blank-good}
 use Rattle.sequence.specs.Contents.{contents-blank}
 use Rattle.sequence.specs.Sound.{Sound, handed}
-use Rattle.sequence.specs.Live.{Live, places-free, free-opens, free-changing}
+use Rattle.sequence.specs.Live.{Live, free-places-good, free-opens, free-changing}
 
 -- the zones of a format pass refusal 3
 pub format-zones-ok : (g : Geometry) → InGeometry g → zonesOk g (formatZones g) ≡ true
@@ -77,7 +74,7 @@ module _ (g : Geometry) (xs hold : List ℕ) (ok : geometryOk g ≡ true) (r : I
     grown = grown-same (formatZones g);
     tidy = tidy-format g big xs erased;
     hold = long;
-    places = places-free g;
+    places = free-places-good g;
     opens = free-opens _;
     changing = free-changing xs (blankMap g) hold (blank g) refl;
   }

@@ -1,38 +1,33 @@
 -- Demand 3: one invariant for a phase with the book, one lemma for each step, and the theorem.
-use mathlib.Core.Path.{_≡_, refl, sym, ap, _∙_, subst}
-use mathlib.Core.Logic.{_⊎_, inl, inr, _≢_}
-use mathlib.Core.Bool.{Bool, true, false, not, cond, _&&_}
-use Prim.Native.Nat.{ℕ, _+_, _*_, _≤_, _<_}
+use mathlib.Core.Path.{_≡_, refl, ap, _∙_, subst}
+use mathlib.Core.Bool.{Bool, true, false, cond}
+use Prim.Native.Nat.{ℕ}
 use native.Mathlib.Omega.{arith}
-use mathlib.Core.List.{List, [], _∷_}
-use lib.ListN.{length, getD}
+use mathlib.Core.List.{List}
+use lib.ListN.{length}
 use lib.Dec.{eqb}
-use Rattle.model.specs.Answers.{refused}
-use Rattle.model.specs.World.{World, Plan, refuse, none}
+use Rattle.model.specs.World.{World, Plan, refuse}
 use Rattle.model.specs.Frame.{lentOk}
-use Rattle.model.specs.Recover.{planRecover, recoverFrom, recoverPlan, entriesAt, zonesAt, scannedAt}
+use Rattle.model.specs.Recover.{planRecover, recoverFrom}
 use Rattle.model.specs.Transactions.{planBegin, planWrite, planLone, planCommit, planAbort}
 use Rattle.model.specs.Strides.{planCheckpoint, planReclaim}
-use Rattle.model.specs.Checkpoint.{Found, nothing, at, newest, loadOk}
-use Rattle.model.specs.Recovery.{pagesGood}
+use Rattle.model.specs.Checkpoint.{at, newest}
 use Rattle.model.specs.Geometry.{mapPages}
 use Rattle.model.specs.Commands.{Call, format, recover, begin, write, lone, commit, abort, read, checkpoint, reclaim, plan, carried, exec, Outcome}
-use Rattle.model.specs.Book.{Book, Content, never, Event, called, cutIn, cutBetween, blank, tell, story, entering, changing, pageOf}
-use Rattle.model.specs.Sequence.{fits, Phase, live, dark, arrayOf, Allowed, isRecovery, cutEvent, cutArray, Step, call, cut, between, back, failed, lost, again, Run, stop, next, Formatted}
-use Rattle.model.specs.Demand3.{ReadsAs, Reads, Recovers, LiveReads, Kept, Demand3, FormatReads}
+use Rattle.model.specs.Book.{Book, Event, called, blank, tell, story, entering, changing}
+use Rattle.model.specs.Sequence.{fits, Phase, live, dark, arrayOf, Allowed, cutEvent, cutArray, Step, call, cut, between, back, failed, lost, again, Run, stop, next}
+use Rattle.model.specs.Demand3.{Recovers, LiveReads, Demand3, FormatReads}
 use Rattle.model.specs.declared.Geometry.{Geometry}
 use Rattle.model.specs.declared.State.{State}
-use Rattle.arrays.specs.Tests.{clash, decide}
-use Rattle.arrays.specs.Ranges.{InLengths}
 use Rattle.model.specs.Zones.{Entry}
-use Rattle.front.specs.Base.{lent-lengths}
+use Rattle.arrays.specs.Frame.{lent-lengths}
 use Rattle.front.specs.Written.{Saved}
 use Rattle.front.specs.Recovered.{stateOf}
 use Rattle.front.specs.FormatReads.{format-reads}
 use Rattle.sequence.specs.Refused.{refused-same, read-same, recover-none, keeps-plan}
-use Rattle.sequence.specs.Sound.{Sound, Stored, handed, recovered, sound-recovers}
+use Rattle.sequence.specs.Sound.{Stored, handed, recovered, sound-recovers}
 use Rattle.sequence.specs.Live.{Live, live-reads, closedBook, sound-live}
-use Rattle.sequence.specs.View.{Keeps, told-refused, refused-live}
+use Rattle.sequence.specs.View.{told-refused, refused-live}
 use Rattle.sequence.specs.SameShape.{SameShape, same-begin, same-write, same-lone, same-commit, same-abort, same-checkpoint, same-reclaim}
 use Rattle.sequence.specs.Begin.{begin-keeps}
 use Rattle.sequence.specs.Abort.{abort-keeps}
@@ -50,6 +45,7 @@ pub record LiveAt (g : Geometry) (w : World) (b : Book) : Type 0 where
   pub shape : w .state .geometry ≡ g
   pub world : Live w b
 
+-- the invariant of a phase: a live world, or a sound array
 abbrev pub Holds : Geometry → Book → Phase → Type 0
 Holds g b (live w) = LiveAt g w b
 Holds g b (dark xs) = Stored g xs (b .pages)

@@ -1,14 +1,10 @@
--- Work under way: until its last stride every other call leaves the world as it is, but a recover and an accepted format; no further stride is
--- refused; each stride of a reclaim picks the same block.
+-- Work under way: until its last stride the zones stay, every other call leaves the world as it is, but a recover and an accepted format, and no
+-- further stride is refused; each stride of a reclaim picks the same block.
 use mathlib.Core.Path.{_≡_, refl, sym, ap, _∙_, subst}
-use mathlib.Core.Logic.{_⊎_, inl, inr}
-use mathlib.Core.Bool.{Bool, true, false, false≢true, not, cond, _||_}
-use Prim.Native.Nat.{ℕ, _+_, _-_, _*_, _≤_, _<_}
+use mathlib.Core.Bool.{Bool, true, false, false≢true, not, cond}
+use Prim.Native.Nat.{ℕ, _*_}
 use native.Mathlib.Omega.{arith}
-use mathlib.Core.List.{List}
-use lib.ListN.{length}
 use lib.Dec.{eqb, ltb}
-use Rattle.model.specs.Page.{pageBytes, blankAt}
 use Rattle.model.specs.Geometry.{mapPages}
 use Rattle.model.specs.Checkpoint.{Found, nothing, at, loadOk}
 use Rattle.model.specs.Answers.{refused}
@@ -16,24 +12,25 @@ use Rattle.model.specs.World.{World, Plan, refuse, applyOp}
 use Rattle.model.specs.Frame.{lentOk, frameOk, isIdle, gate}
 use Rattle.model.specs.Recovery.{pagesGood}
 use Rattle.model.specs.Recover.{entriesAt, zonesAt, scannedAt, planRecover, recoverFrom, recoverPlan, recoveredState}
-use Rattle.model.specs.Transactions.{unless, dataBytes, withPlace, withVersion, planBegin, planWrite, planLone, planCommit, planAbort, writePlan, lonePlan, markPlan, forgetPlan}
+use Rattle.model.specs.Transactions.{unless, withPlace, withVersion, planBegin, planWrite, planLone, planCommit, planAbort, writePlan, lonePlan, markPlan, forgetPlan}
 use Rattle.model.specs.Strides.{isCheckpoint, isReclaim, withWork, withZones, withNumber, mappedIn, picked, lowestFrom, mapStride, zoneStride, pageStride, otherStride, copyStride, freeStride, reclaimStride, planCheckpoint, planReclaim}
-use Rattle.model.specs.Commands.{Call, format, recover, begin, write, lone, commit, abort, read, checkpoint, reclaim, plan, carried, exec, Outcome}
+use Rattle.model.specs.Commands.{Call, format, recover, begin, write, lone, commit, abort, read, checkpoint, reclaim, plan, carried, exec}
 use Rattle.model.specs.Book.{Book}
-use Rattle.model.specs.Sequence.{fits, Allowed}
+use Rattle.model.specs.Sequence.{Allowed}
 use Rattle.model.specs.declared.Geometry.{Geometry}
 use Rattle.model.specs.declared.Work.{Work}
 use Rattle.model.specs.declared.Work.the-variants.{Idle, Format, Checkpoint, Reclaim}
-use Rattle.arrays.specs.Tests.{clash, decide}
-use Rattle.front.specs.CheckpointStrides.{gate-own, Stride, refuses, erases, maps, zones, checkpoint-stride, checkpoint-goes-on}
-use Rattle.scanlog.specs.Reclaim.{Going, GoingOn, going-copy, stride-goes}
+use Rattle.arrays.specs.Tests.{clash}
+use Rattle.arrays.specs.Frame.{gate-own}
+use Rattle.front.specs.CheckpointStrides.{Stride, refuses, erases, maps, zones, checkpoint-stride, checkpoint-goes-on}
+use Rattle.scanlog.specs.Reclaim.{GoingOn, stride-goes}
 use Rattle.sequence.specs.Refused.{refused-same, read-same}
 use Rattle.sequence.specs.Live.{Live, live-frame}
 use Rattle.sequence.specs.View.{View, no, yes, view-test, view-cond, view-map}
-use Rattle.sequence.specs.Begin.{Begins, begin-view}
-use Rattle.sequence.specs.Abort.{Aborts, abort-view}
-use Rattle.sequence.specs.Lone.{Lones, lone-view}
-use Rattle.sequence.specs.Write.{WritesTo, write-view}
+use Rattle.sequence.specs.Begin.{begin-view}
+use Rattle.sequence.specs.Abort.{abort-view}
+use Rattle.sequence.specs.Lone.{lone-view}
+use Rattle.sequence.specs.Write.{write-view}
 use Rattle.sequence.specs.Commit.{Commits, forgets, marks, commit-view}
 use Rattle.sequence.specs.Reclaiming.{Reclaims, copies, frees, reclaim-view, copy-going}
 
@@ -208,25 +205,30 @@ copy-picks-same w b h a = go (planReclaim w) refl (reclaim-view w (h .sound .las
     go p e (no n r) = ap picked (refuse-same reclaim w n e)
     go p e (yes q x) = rw e (does q (rw e at a) x)
 
--- ---- a stride that answers more leaves its work under way
-pub reclaim-more : (w : World) (b : Book) → Live w b → exec reclaim w .answer ≡ 255 → isReclaim (exec reclaim w .world .state .work) ≡ true
+-- ---- a stride that answers more
+-- leaves its work under way, and the zones as they are
+pub record More (own : Work → Bool) (w v : World) : Type 0 where
+  pub work : own (v .state .work) ≡ true
+  pub zones : v .state .zones ≡ w .state .zones
+
+pub reclaim-more : (w : World) (b : Book) → Live w b → exec reclaim w .answer ≡ 255 → More isReclaim w (exec reclaim w .world)
 unfolding exec carried plan
 reclaim-more w b h a = go (planReclaim w) refl (reclaim-view w (h .sound .last))
   where
-    does : (p : Plan) → p .answer ≡ 255 → Reclaims w p → isReclaim (p .state .work) ≡ true
-    does p a (copies c calm on some) = unfold copyStride withWork in refl
+    does : (p : Plan) → p .answer ≡ 255 → Reclaims w p → More isReclaim w (carried p w .world)
+    does p a (copies c calm on some) = unfold carried copyStride withWork withVersion in record { work = refl; zones = refl }
     does p a (frees c calm on zero) = let z : _≡_ {A = ℕ} 0 255 = unfold freeStride in a in absurd (omega arith)
 
-    go : (p : Plan) → planReclaim w ≡ p → View w (Reclaims w) p → isReclaim (planReclaim w .state .work) ≡ true
+    go : (p : Plan) → planReclaim w ≡ p → View w (Reclaims w) p → More isReclaim w (exec reclaim w .world)
     go p e (no n r) = let z : n ≡ 255 = rw e at a in clash (subst (λ (m : ℕ). refused m ≡ true) z r) (unfold refused in refl)
     go p e (yes q x) = rw e (does q (rw e at a) x)
 
-pub checkpoint-more : (w : World) (b : Book) → Live w b → exec checkpoint w .answer ≡ 255 → isCheckpoint (exec checkpoint w .world .state .work) ≡ true
+pub checkpoint-more : (w : World) (b : Book) → Live w b → exec checkpoint w .answer ≡ 255 → More isCheckpoint w (exec checkpoint w .world)
 unfolding exec carried plan
 checkpoint-more w b h a = go (planCheckpoint w) (checkpoint-stride w (h .saved) (h .kept)) a
   where
-    go : (p : Plan) → Stride w p → p .answer ≡ 255 → isCheckpoint (p .state .work) ≡ true
+    go : (p : Plan) → Stride w p → p .answer ≡ 255 → More isCheckpoint w (carried p w .world)
     go p (refuses n r) a = clash (subst (λ (m : ℕ). refused m ≡ true) a r) (unfold refused in refl)
-    go p (erases s i) a = unfold otherStride withWork in refl
-    go p (maps q i s r m) a = unfold mapStride withWork in refl
+    go p (erases s i) a = unfold carried otherStride withWork in record { work = refl; zones = refl }
+    go p (maps q i s r m) a = unfold carried mapStride withWork in record { work = refl; zones = refl }
     go p (zones q s r) a = let z : _≡_ {A = ℕ} 0 255 = unfold zoneStride in a in absurd (omega arith)

@@ -1,138 +1,47 @@
 -- A write keeps the world live: the page held before is programmed without a mark, and the new one is held.
 use mathlib.Core.Path.{_≡_, refl, sym, ap, _∙_, subst}
 use mathlib.Core.Logic.{_⊎_, inl, inr, _≢_}
-use mathlib.Core.Bool.{Bool, true, false, not, cond, _&&_, _||_}
-use Prim.Native.Nat.{ℕ, zero, suc, _+_, _-_, _*_, _≤_, _<_}
+use mathlib.Core.Bool.{true, false, not, cond, _&&_}
+use Prim.Native.Nat.{ℕ, _-_, _<_}
 use native.Mathlib.Omega.{arith}
 use mathlib.Core.List.{List, [], _∷_, _++_}
-use lib.ListN.{length, take, getD, set, length-set}
+use lib.ListN.{length, set, length-set}
 use lib.Seq.{getD-set-same, getD-set-other}
 use lib.Dec.{eqb, leb, ltb}
-use borrow.Author.Tests.{eqb-true, eqb-false, eq-eqb, ne-eqb, ltb-true, leb-true, leb-false, lt-ltb, le-leb, not-false, not-true}
-use Rattle.model.specs.Lists.{all}
-use Rattle.model.specs.Page.{pageBytes, wholeAt, blankAt}
+use borrow.Author.Tests.{eqb-true, ne-eqb, ltb-true, leb-false, not-false}
 use Rattle.model.specs.Bytes.{bytes}
 use Rattle.model.specs.Geometry.{dataPage}
 use Rattle.model.specs.Zones.{Entry, entryOf, scanOf}
 use Rattle.model.specs.Recovery.{ofId}
 use Rattle.model.specs.Answers.{refused}
-use Rattle.model.specs.World.{World, Plan, Op, refuse, none, program, applyOp}
-use Rattle.model.specs.Frame.{noPlace, badId, placeOk, isIdle}
+use Rattle.model.specs.World.{World, Plan, none, program, applyOp}
+use Rattle.model.specs.Frame.{noPlace, badId, isIdle}
 use Rattle.model.specs.Transactions.{placeOf, withPlace, cleanPages, nextPage, zoneShort, dataBytes, heldAt, holdWith, heldPage, longestChange, written, heldOp, writePlan, planWrite}
-use Rattle.model.specs.Commands.{Call, write, plan, carried, exec, Outcome}
-use Rattle.model.specs.Book.{Book, Write, Event, called, holds, tell, entering, changing, writesOf, addTo}
+use Rattle.model.specs.Commands.{write, plan, carried}
+use Rattle.model.specs.Book.{Book, Write, entering, changing, writesOf, addTo}
 use Rattle.model.specs.Sequence.{fits}
 use Rattle.model.specs.declared.Geometry.{Geometry}
 use Rattle.model.specs.declared.Place.{Place}
 use Rattle.model.specs.declared.Spare.{Spare}
-use Rattle.model.specs.declared.State.{State}
-use Rattle.arrays.specs.Tests.{Is, eqb-cases, clash, decide, and-left, and-right, and-both, and-cases, or-cases, or-false-right, or-left, or-right, all-at}
+use Rattle.arrays.specs.Tests.{Is, eqb-cases, and-right}
 use Rattle.arrays.specs.Bytelist.{Bytes, bytes-true}
 use Rattle.arrays.specs.Image.{SpareFits}
-use Rattle.arrays.specs.Ranges.{InGeometry}
-use Rattle.front.specs.Local.{SameFront}
+use Rattle.front.specs.Newest.{SameFront}
 use Rattle.front.specs.Kept.{kept-away}
 use Rattle.scanlog.specs.Log.{ofId-other}
-use Rattle.scanlog.specs.Good.{Plain}
 use Rattle.scanlog.specs.Logged.{Logged, logged-page}
-use Rattle.scanlog.specs.Open.{Open, Opens, openEntry, opens-set, open-noMark, open-first, open-more}
+use Rattle.scanlog.specs.Open.{Open, openEntry, opens-set, open-noMark, open-first, open-more}
 use Rattle.scanlog.specs.Tidy.{Tidy}
-use Rattle.sequence.specs.Places.{PlacesGood, placeAt, places-set, all-by-at, Found, place-found}
+use Rattle.sequence.specs.Places.{placeAt, places-set, Found, place-found}
+use Rattle.sequence.specs.PlaceIn.{PlaceIn, place-in, in-place, good-name, first-passes, written-in}
 use Rattle.sequence.specs.OpenBook.{isOpen, add-own, add-other, add-open}
-use Rattle.sequence.specs.Writes.{Laid, Writes, WholeSame, writes-keep, writes-more}
-use Rattle.sequence.specs.Hold.{hold-own, hold-other, hold-long, held-long}
+use Rattle.sequence.specs.Writes.{Writes, WholeSame, writes-keep, writes-more, hold-own, hold-other, hold-long, held-long}
 use Rattle.sequence.specs.Sound.{Sound}
-use Rattle.sequence.specs.Live.{Changing, Live, live-range, live-logged, scanned}
-use Rattle.sequence.specs.View.{View, no, yes, view-test, view-gate, idle-only, Keeps, done-live, view-keeps}
-use Rattle.sequence.specs.Begin.{idle-calm}
+use Rattle.sequence.specs.Live.{Live, live-range, live-logged, scanned}
+use Rattle.sequence.specs.View.{View, yes, view-test, view-gate, idle-only, Keeps, done-live, view-keeps, idle-calm}
 use Rattle.sequence.specs.Abort.{found-apart}
 use Rattle.sequence.specs.Lone.{room-clean}
-use Rattle.sequence.specs.Append.{Appends, appends, appended, next-is-data, next-mapped, next-blank, next-free, append-whole, append-data, append-spare, append-keeps, append-tidy, append-scan, append-front, append-sound, append-contents}
-
--- ---- a place in range, by its parts
-pub record PlaceIn (g : Geometry) (p : Place) : Type 0 where
-  pub few : p .count ≤ 64
-  pub name : (badId (p .id) ≡ false) ⊎ ((p .id ≡ 0) × (p .count ≡ 0))
-  pub lpns : all (λ (l : ℕ). ltb l (g .logical)) (take (p .count) (p .lpns)) ≡ true
-  pub ppns : all (dataPage g) (take (p .count - 1) (p .ppns)) ≡ true
-
-pub place-in : (g : Geometry) (p : Place) → placeOk g p ≡ true → PlaceIn g p
-unfolding placeOk
-place-in g p h =
-    let a = and-right (leb (p .count) 64) _ h in
-    let n = and-left (not (badId (p .id)) || (eqb (p .id) 0 && eqb (p .count) 0)) _ a in
-    let c = and-right (not (badId (p .id)) || (eqb (p .id) 0 && eqb (p .count) 0)) _ a in
-    record {
-      few = leb-true (p .count) 64 (and-left (leb (p .count) 64) _ h);
-      name = pick (or-cases (not (badId (p .id))) _ n);
-      lpns = and-left (all (λ (l : ℕ). ltb l (g .logical)) (take (p .count) (p .lpns))) _ c;
-      ppns = and-right (all (λ (l : ℕ). ltb l (g .logical)) (take (p .count) (p .lpns))) _ c;
-    }
-  where
-    pick : (not (badId (p .id)) ≡ true) ⊎ ((eqb (p .id) 0 && eqb (p .count) 0) ≡ true) → (badId (p .id) ≡ false) ⊎ ((p .id ≡ 0) × (p .count ≡ 0))
-    pick (inl e) = inl (not-true (badId (p .id)) e)
-    pick (inr e) = inr (eqb-true (p .id) 0 (and-left (eqb (p .id) 0) _ e), eqb-true (p .count) 0 (and-right (eqb (p .id) 0) _ e))
-
-pub in-place : (g : Geometry) (p : Place) → PlaceIn g p → placeOk g p ≡ true
-unfolding placeOk
-in-place g p h =
-    and-both (leb (p .count) 64) _ (le-leb (p .count) 64 (h .few))
-    (and-both (not (badId (p .id)) || (eqb (p .id) 0 && eqb (p .count) 0)) _ (pick (h .name)) (and-both _ _ (h .lpns) (h .ppns)))
-  where
-    pick : (badId (p .id) ≡ false) ⊎ ((p .id ≡ 0) × (p .count ≡ 0)) → (not (badId (p .id)) || (eqb (p .id) 0 && eqb (p .count) 0)) ≡ true
-    pick (inl e) = or-left (not (badId (p .id))) _ (ap not e)
-    pick (inr e) = or-right (not (badId (p .id))) _ (and-both (eqb (p .id) 0) (eqb (p .count) 0) (eq-eqb (p .id) 0 (e .0)) (eq-eqb (p .count) 0 (e .1)))
-
--- an identifier that 6 does not refuse
-pub good-name : (id : ℕ) → badId id ≡ false → id ≢ 4294967295
-unfolding badId
-good-name id h q = clash (eq-eqb id 4294967295 q) (or-false-right (eqb id 0) (eqb id 4294967295) h)
-
--- the first numbers of a list, one by one
-getD-first : (n : ℕ) (l : List ℕ) (i : ℕ) → i < n → getD (take n l) i 0 ≡ getD l i 0
-getD-first zero l i h = absurd (omega arith)
-getD-first (suc n) [] i h = refl
-getD-first (suc n) (x ∷ l) zero h = refl
-getD-first (suc n) (x ∷ l) (suc i) h = getD-first n l i (omega arith)
-
-length-first : (n : ℕ) (l : List ℕ) → n ≤ length l → length (take n l) ≡ n
-length-first zero l h = refl
-length-first (suc n) [] h = absurd (omega arith)
-length-first (suc n) (x ∷ l) h = ap suc (length-first n l (omega arith))
-
-pub first-passes : (p : ℕ → Bool) (n : ℕ) (l : List ℕ) → n ≤ length l → all p (take n l) ≡ true → (i : ℕ) → i < n → p (getD l i 0) ≡ true
-first-passes p n l h a i k = rw (getD-first n l i k) at (all-at p (take n l) i 0 a (omega (arith, length-first n l h)))
-
-pub passes-first : (p : ℕ → Bool) (n : ℕ) (l : List ℕ) → n ≤ length l → ((i : ℕ) → i < n → p (getD l i 0) ≡ true) → all p (take n l) ≡ true
-passes-first p n l h k = all-by-at p 0 (take n l) (λ i m. let q : i < n = omega (arith, length-first n l h) in rw (getD-first n l i q) (k i q))
-
--- the written place is in range
-pub written-in : (g : Geometry) (p : Place) (k lpn : ℕ) → p .count < 64 → badId (p .id) ≡ false → length (p .lpns) ≡ 64 → length (p .ppns) ≡ 64 → lpn < g .logical
-    → (p .count ≢ 0 → dataPage g k ≡ true) → PlaceIn g p → PlaceIn g (written p k lpn)
-unfolding written
-written-in g p k lpn room name ll lp low page h = record {
-  few = omega arith;
-  name = inl name;
-  lpns = passes-first (λ (l : ℕ). ltb l (g .logical)) (p .count + 1) (set (p .lpns) (p .count) lpn) (omega (arith, length-set (p .lpns) (p .count) lpn)) (λ i l. lpn-at i l (eqb-cases i (p .count)));
-  ppns = passes-first (dataPage g) (p .count + 1 - 1) _ (omega (arith, long (eqb (p .count) 0))) (λ i l. ppn-at i l (eqb-cases (suc i) (p .count)));
-}
-  where
-    long : (t : Bool) → length (cond t (p .ppns) (set (p .ppns) (p .count - 1) k)) ≡ 64
-    long true = lp
-    long false = length-set (p .ppns) (p .count - 1) k ∙ lp
-
-    lpn-at : (i : ℕ) → i < p .count + 1 → Is i (p .count) → ltb (getD (set (p .lpns) (p .count) lpn) i 0) (g .logical) ≡ true
-    lpn-at i l (inl q) = rw (q .0, getD-set-same (p .lpns) (p .count) lpn 0 (omega arith)) (lt-ltb lpn (g .logical) low)
-    lpn-at i l (inr q) = rw (getD-set-other (p .lpns) (p .count) i lpn 0 (q .0)) (first-passes (λ (l : ℕ). ltb l (g .logical)) (p .count) (p .lpns) (omega arith) (h .lpns) i (omega (arith, q .0)))
-
-    ppn-at : (i : ℕ) → i < p .count + 1 - 1 → Is (suc i) (p .count) → dataPage g (getD (cond (eqb (p .count) 0) (p .ppns) (set (p .ppns) (p .count - 1) k)) i 0) ≡ true
-    ppn-at i l (inl q) =
-        let n : p .count ≢ 0 = λ z. absurd (omega (arith, q .0)) in
-        let e : p .count - 1 ≡ i = omega (arith, q .0) in
-        rw (ne-eqb (p .count) 0 n, e, getD-set-same (p .ppns) i k 0 (omega arith)) (page n)
-    ppn-at i l (inr q) =
-        let n : p .count ≢ 0 = λ z. absurd (omega arith) in
-        rw (ne-eqb (p .count) 0 n, getD-set-other (p .ppns) (p .count - 1) i k 0 (λ e. absurd (omega (arith, q .0)))) (first-passes (dataPage g) (p .count - 1) (p .ppns) (omega arith) (h .ppns) i (omega (arith, q .0)))
+use Rattle.sequence.specs.Append.{Appends, appends, appended, next-is-data, next-blank, next-free, append-whole, append-data, append-spare, append-keeps, append-tidy, append-scan, append-front, append-sound, append-contents}
 
 -- ---- the plan
 pub record WritesTo (w : World) (id lpn : ℕ) (d : List ℕ) (p : Plan) : Type 0 where
@@ -168,6 +77,7 @@ write-view id lpn d w =
 -- ---- the world with the page held, and perhaps one programmed
 module _ (w : World) (b : Book) (h : Live w b) (id lpn : ℕ) (d : List ℕ) (idle : isIdle (w .state .work) ≡ true) (long : length d ≡ 512) (small : Bytes d)
     (low : lpn < w .state .geometry .logical) (i : ℕ) (f : Found (w .state .places) id i) (room : placeAt (w .state .places) i .count < 64) where
+  -- geometry, places, the place of the change, and the write
   abbrev g : Geometry
   g = w .state .geometry
 
@@ -201,6 +111,7 @@ module _ (w : World) (b : Book) (h : Live w b) (id lpn : ℕ) (d : List ℕ) (id
       (scan : scanOf ys (g .pages) (w .state .zones) ≡ es) (front : SameFront (w .array) ys (g .pages)) (same : WholeSame (w .array) ys)
       (mine : Open (written p k lpn) es) (others : (j : ℕ) → j < length ps → j ≢ i → placeAt ps j .id ≢ 0 → ofId (placeAt ps j .id) es ≡ ofId (placeAt ps j .id) (scanned w))
       (page : p .count ≢ 0 → dataPage g k ≡ true) (new : Writes ys (w .map) (holdWith (w .hold) i d) i (written p k lpn) (writesOf id (b .changes) ++ (x ∷ []))) where
+    -- the place, the world and the book after it
     abbrev q : Place
     q = written p k lpn
 
@@ -289,12 +200,14 @@ module _ (w : World) (b : Book) (h : Live w b) (id lpn : ℕ) (d : List ℕ) (id
     held-name : p .id ≢ 4294967295
     held-name = good-name (p .id) named
 
+    -- the spare area of the page held before
     abbrev pageSpare : Spare
     pageSpare = record { lpn = heldPage p; cnt = 0; id = p .id; ver = 0; kind = 0; reserved = 0 }
 
     page-fits : SpareFits pageSpare
     page-fits = record { lpn = omega (arith, held-low, live-range w b h .logical-most); cnt = omega arith; id = own .small; ver = omega arith; kind = omega arith; reserved = omega arith }
 
+    -- its data
     abbrev pageData : List ℕ
     pageData = heldAt i (w .hold)
 
@@ -310,6 +223,7 @@ module _ (w : World) (b : Book) (h : Live w b) (id lpn : ℕ) (d : List ℕ) (id
     clean : 0 < cleanPages w
     clean = room-clean w b h short
 
+    -- its page, the array after it, and what is scanned then
     abbrev k : ℕ
     k = nextPage w
 

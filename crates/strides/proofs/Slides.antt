@@ -23,7 +23,7 @@ use Rattle.zones.proofs.Sliding.{slide-fits}
 
 -- ---- what is listed stays as much
 -- the blocks that are available or free
-abbrev listedBy : zones.Taken → ℕ
+abbrev pub listedBy : zones.Taken → ℕ
 listedBy t = length (t .available) + length (t .free)
 
 take-same : (g : Geometry) (t : zones.Taken) → 0 < length (t .free) → listedBy (takeOne g t) ≡ listedBy t
@@ -32,7 +32,8 @@ take-same g t h =
     let w = length-without (freeIndex (t .pointer) (t .free)) (t .free) (index-inside (t .pointer) (t .free) h) in
     simp length-append (omega arith)
 
-refill-same : (g : Geometry) (n : ℕ) (t : zones.Taken) → listedBy (zones.refill g n t) ≡ listedBy t
+-- a refill leaves as many listed
+pub refill-same : (g : Geometry) (n : ℕ) (t : zones.Taken) → listedBy (zones.refill g n t) ≡ listedBy t
 unfolding zones.refill
 refill-same g zero t = refl
 refill-same g (suc n) t = go (ltb (length (t .available)) 3) (eqb (length (t .free)) 0) refl (refill-same g n t) (refill-same g n (takeOne g t))

@@ -1,7 +1,7 @@
 -- `Device::read` meets its contract: a test after the other. Assumes nothing.
 use native.Mathlib.Omega.{arith}
 use Rattle.model.specs.World.{World}
-use Rattle.device.proofs.Framed.{frame-failed, frame-passed, framed-lengths}
+use Rattle.device.proofs.Framed.{frame-failed, frame-passed, framed}
 use Rattle.device.proofs.Reading.{answers, read-bad, read-past, read-never, read-done}
 use borrow.Author.Needs.{needs}
 use Rattle.device.proofs.Device.read.Statement.{statement}
@@ -29,7 +29,7 @@ shared-slice-read-if3 : tie.Need-shared-slice-read-if3
 shared-slice-read-if3 c =
     let a = c .before .before .before .before .before .before .before .before .before .args in
     let w : World = record { array = a .array .now; map = a .map .now; hold = a .hold .now; state = a .self .state } in
-    let n = framed-lengths w (frame-passed w (c .before .before .before .before .frame-ok .result) (c .before .before .before .before .frame-ok .ensures) (c .before .before .before .if1 .left)) .map in
+    let n = framed w (frame-passed w (c .before .before .before .before .frame-ok .result) (c .before .before .before .before .frame-ok .ensures) (c .before .before .before .if1 .left)) .map in
     omega arith
 
 returns-3 : tie.Need-returns-3

@@ -2,7 +2,7 @@
 use mathlib.Core.Path.{refl}
 use native.Mathlib.Omega.{arith}
 use Rattle.model.specs.World.{World}
-use Rattle.device.proofs.Framed.{frame-failed, frame-passed, framed-lengths, mapped-fits}
+use Rattle.device.proofs.Framed.{frame-failed, frame-passed, framed, mapped-fits}
 use Rattle.device.proofs.Reading.{read-bad, read-past, read-never, part-none, part-done}
 use borrow.Author.Needs.{needs}
 use Rattle.device.proofs.Device.read_part.Statement.{statement}
@@ -48,7 +48,7 @@ shared-slice-read-k : tie.Need-shared-slice-read-k
 shared-slice-read-k c =
     let a = c .before .before .before .before .before .before .before .before .before .args in
     let w : World = record { array = a .array .now; map = a .map .now; hold = a .hold .now; state = a .self .state } in
-    let n = framed-lengths w (frame-passed w (c .before .before .before .before .frame-ok .result) (c .before .before .before .before .frame-ok .ensures) (c .before .before .before .if1 .left)) .map in
+    let n = framed w (frame-passed w (c .before .before .before .before .frame-ok .result) (c .before .before .before .before .frame-ok .ensures) (c .before .before .before .if1 .left)) .map in
     omega arith
 
 sub-result-3 : tie.Need-sub-result-3

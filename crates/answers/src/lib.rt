@@ -1,0 +1,41 @@
+// Answers by document 01's numbers, for those who hand them on: 0 done, 255 more, else the refusal's number in the table.
+ghost use mathlib.Core.Path.{_≡_};
+ghost use Rattle.model.specs.Answers.{refusalNumber, number};
+use model::Answer;
+use model::Refusal;
+
+/// The number of a refusal.
+fn refusal_number(why: Refusal) -> u8
+    ensures { λ r. ⌜ r ≡ refusalNumber why ⌝ }
+{
+    match why {
+        Refusal::BadFrame => 1,
+        Refusal::NoCheckpoint => 2,
+        Refusal::BadCheckpoint => 3,
+        Refusal::BadPage => 4,
+        Refusal::BadLogicalPage => 5,
+        Refusal::BadIdentifier => 6,
+        Refusal::IdentifierLive => 7,
+        Refusal::NotBegun => 8,
+        Refusal::PlacesFull => 9,
+        Refusal::TooLong => 10,
+        Refusal::BadLength => 11,
+        Refusal::ZoneShort => 12,
+        Refusal::VersionsSpent => 13,
+        Refusal::NeverWritten => 14,
+        Refusal::NoGain => 15,
+        Refusal::ReserveShort => 16,
+        Refusal::Busy => 17,
+    }
+}
+
+/// The number of an answer.
+pub fn number(answer: Answer) -> u8
+    ensures { λ r. ⌜ r ≡ number answer ⌝ }
+{
+    match answer {
+        Answer::Done => 0,
+        Answer::More => 255,
+        Answer::Refused(why) => refusal_number(why),
+    }
+}

@@ -1,0 +1,63 @@
+-- What a recovery makes of a scan, and what it may count on.
+use Prim.Native.Nat.{ℕ, _+_, _*_, _≤_, _<_, _/_}
+use mathlib.Core.Path.{_≡_}
+use mathlib.Core.Bool.{Bool, true, false, cond}
+use mathlib.Core.List.{List}
+use lib.ListN.{length, replicate}
+use Rattle.model.specs.Geometry.{geometryOk, mapPages}
+use Rattle.model.specs.Zones.{Entry}
+use Rattle.model.specs.Checkpoint.{loadOk}
+use Rattle.model.specs.Recovery.{pagesGood, top, redone}
+use Rattle.model.specs.Frame.{freePlace}
+use Rattle.model.specs.Recover.{entriesAt, zonesAt}
+use Rattle.model.specs.declared.Geometry.{Geometry}
+use Rattle.model.specs.declared.State.{State}
+use Rattle.model.specs.declared.Zones.{Zones}
+use Rattle.model.specs.declared.Work.the-variants.{Idle}
+use Rattle.flash.specs.Ranges.{Within}
+
+-- whether refusal 4 passes, the highest version, and the map
+pub record Scan : Type 0 where
+  pub good : Bool
+  pub top : ℕ
+  pub map : List ℕ
+
+unfoldable pub scannedOf : ℕ → List Entry → ℕ → List ℕ → List ℕ → Scan
+scannedOf logical es floor entries map =
+    cond (pagesGood logical es)
+    (record { good = true; top = top es; map = redone floor es entries })
+    (record { good = false; top = 0; map = map })
+
+-- the state of a recovery from the checkpoint on page k on
+unfoldable pub recoveredOf : Geometry → Zones → ℕ → ℕ → ℕ → State
+recoveredOf g z version number k =
+    record {
+      geometry = g;
+      zones = z;
+      version = version;
+      checkpoint = number;
+      front = k / g .pages;
+      first = 0;
+      work = Idle;
+      places = replicate 8 freePlace;
+    }
+
+-- blocks to scan, which lie in the array, a map of the geometry's length, and as many entries or more
+pub record Scannable (g : Geometry) (xs map bs entries : List ℕ) : Type 0 where
+  pub shape : geometryOk g ≡ true
+  pub blocks : Within (length xs) (g .pages) bs
+  pub mapped : length map ≡ g .logical
+  pub enough : g .logical ≤ length entries
+
+-- array and map have the geometry's lengths, and the pages of a checkpoint from page k on lie in the front
+pub record Standing (g : Geometry) (xs map : List ℕ) (k : ℕ) : Type 0 where
+  pub shape : geometryOk g ≡ true
+  pub bytes : length xs ≡ g .blocks * g .pages * 528
+  pub mapped : length map ≡ g .logical
+  pub ends : k + mapPages g < 2 * g .pages
+
+-- the zone page's data and the map entries of that checkpoint, which refusal 3 passed
+pub record Loaded (g : Geometry) (xs : List ℕ) (k : ℕ) (z entries : List ℕ) : Type 0 where
+  pub zones : z ≡ zonesAt g xs k
+  pub used : entries ≡ entriesAt g xs k
+  pub ok : loadOk g (entriesAt g xs k) (zonesAt g xs k) ≡ true
