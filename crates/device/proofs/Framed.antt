@@ -1,19 +1,22 @@
 -- What refusal 1 leaves: lengths and lists in range, and the page of each mapped logical page in the array. Assumes nothing.
 use Prim.Native.Nat.{ℕ, zero, suc, _+_, _*_, _≤_, _<_}
 use mathlib.Core.Path.{_≡_, refl, sym, _∙_}
-use mathlib.Core.Bool.{Bool, true, false, cond, not, _||_}
+use mathlib.Core.Bool.{Bool, true, false, cond, not, _&&_, _||_}
 use mathlib.Core.List.{List, [], _∷_}
 use lib.ListN.{length, getD}
-use lib.Dec.{eqb}
-use borrow.Author.Tests.{ne-eqb, not-true, not-false}
+use lib.Dec.{eqb, ltb}
+use borrow.Author.Tests.{ltb-true, ne-eqb, not-true, not-false}
 use native.Mathlib.Omega.{arith}
 use Rattle.model.specs.Lists.{all, elem}
 use Rattle.model.specs.Geometry.{dataPage, unmapped, entryOk, mapOk}
 use Rattle.model.specs.World.{World}
-use Rattle.model.specs.Frame.{lentOk, frameOk, isIdle, gate}
+use Rattle.model.specs.Zones.{zonesOk}
+use Rattle.model.specs.Frame.{placesOk, workOk, lentOk, frameOk, isIdle, gate}
 use Rattle.model.specs.declared.Geometry.{Geometry}
 use Rattle.arrays.specs.Tests.{and-left, and-right, heads-all, all-at}
 use Rattle.arrays.specs.Ranges.{data-page-fits}
+use Rattle.strides.specs.Strode.{Fit}
+use Rattle.reclaim.specs.Copies.{Pickable}
 use Rattle.change.proofs.Framed.{InFrame, frame-in}
 
 -- an element of a list, whatever stands for those past its end
@@ -62,6 +65,32 @@ module _ (w : World) (f : frameOk w ≡ true) where
   framed-map : mapOk (w .state .geometry) (w .map) ≡ true
   unfolding frameOk
   framed-map = and-left (mapOk (w .state .geometry) (w .map)) _ (and-right (lentOk (w .state .geometry) w) _ f)
+
+  rest : (placesOk (w .state .geometry) (w .state .places) && (ltb (w .state .front) 2 && workOk (w .state) (w .array) (w .state .work))) ≡ true
+  unfolding frameOk
+  rest = and-right (zonesOk (w .state .geometry) (w .state .zones)) _ (and-right (mapOk (w .state .geometry) (w .map)) _ (and-right (lentOk (w .state .geometry) w) _ f))
+
+  front-work : (ltb (w .state .front) 2 && workOk (w .state) (w .array) (w .state .work)) ≡ true
+  front-work = and-right (placesOk (w .state .geometry) (w .state .places)) _ rest
+
+  -- what a stride may count on
+  pub frame-fit : Fit (w .state) (w .array) (w .map)
+  frame-fit =
+      record {
+        shape = framed .ready .shape;
+        bytes = framed .ready .bytes;
+        entries = framed .map;
+        mapped = framed-map;
+        zones = framed .ready .lists;
+        places = framed .places;
+        front = ltb-true (w .state .front) 2 (and-left (ltb (w .state .front) 2) _ front-work);
+      }
+
+  pub frame-work : workOk (w .state) (w .array) (w .state .work) ≡ true
+  frame-work = and-right (ltb (w .state .front) 2) _ front-work
+
+  pub frame-pickable : Pickable (w .state) (w .map)
+  frame-pickable = record { shape = framed .ready .shape; lists = framed .ready .lists; few = let n = framed .map in let l = framed .shape .logical-most in omega arith }
 
   -- a mapped logical page
   module _ (lpn : ℕ) (l : lpn < w .state .geometry .logical) (u : getD (w .map) lpn 0 ≡ unmapped → ⊥) where

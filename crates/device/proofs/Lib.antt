@@ -1,3 +1,4 @@
 pub mod Framed
 pub mod Outcomes
 pub mod Reading
+pub mod Striding

@@ -5,15 +5,18 @@ ghost use mathlib.Core.Bool.{cond, not, _&&_};
 ghost use lib.Dec.{eqb, leb};
 ghost use Rattle.model.specs.Answers.{number};
 ghost use Rattle.model.specs.Zones.{availableOf, cleanIn};
-ghost use Rattle.model.specs.Commands.{Outcome, exec, begin, write, lone, commit, abort, read};
+ghost use Rattle.model.specs.Commands.{Outcome, exec, format, recover, begin, write, lone, commit, abort, read, checkpoint, reclaim};
 ghost use Rattle.model.specs.Transactions.{readPart};
 ghost use Rattle.zones.specs.Judging.{Ready};
 ghost use Rattle.device.specs.Replies.{replied};
+use checkpoint::Found;
 use model::Answer;
+use model::Geometry;
 use model::Map;
 use model::Place;
 use model::Refusal;
 use model::State;
+use strides::Stride;
 
 /// The handle with the commands.
 pub struct Device {
@@ -34,6 +37,15 @@ fn answered(answer: Answer, s: State) -> Reply
         answer,
         device: Device { state: s },
     }
+}
+
+/// The reply of a stride.
+fn strode(t: Stride) -> Reply
+    ensures { λ r. ⌜ r ≡ replied (t .answer) (t .state) ⌝ }
+{
+    let a = t.answer;
+    let s = t.state;
+    answered(a, s)
 }
 
 /// The reply that refuses with number 1 or 17.
@@ -246,5 +258,69 @@ impl Device {
         let page = flash::page_of(array, k as usize);
         let end: usize = 512;
         &page[zero..end]
+    }
+
+    /// One stride of a checkpoint: 13.
+    pub fn checkpoint(self, array: &mut [u8], map: &[u16], hold: &[u8]) -> Reply
+        ensures { λ r. ⌜ _≡_ {A = Outcome} (record { answer = number (r .answer); world = record { array = now (array .exit); map = now (map .entry); hold = now (hold .entry); state = r .device .state } }) (exec checkpoint (record { array = now (array .entry); map = now (map .entry); hold = now (hold .entry); state = self .state })) ⌝ }
+    {
+        let s = self.state;
+        let w = s.work;
+        let n = frame::gate(strides::is_checkpoint(w), s, array, map, hold);
+        if n != 0 {
+            return refused(n, s);
+        }
+        if s.checkpoint >= State::LAST_NUMBER {
+            return answered(Answer::Refused(Refusal::VersionsSpent), s);
+        }
+        let t = strides::checkpoint_stride(s, array, map, w);
+        strode(t)
+    }
+
+    /// One stride of a reclaim: 15, 13, 16.
+    pub fn reclaim(self, array: &mut [u8], map: &mut [u16], hold: &[u8]) -> Reply
+        ensures { λ r. ⌜ _≡_ {A = Outcome} (record { answer = number (r .answer); world = record { array = now (array .exit); map = now (map .exit); hold = now (hold .entry); state = r .device .state } }) (exec reclaim (record { array = now (array .entry); map = now (map .entry); hold = now (hold .entry); state = self .state })) ⌝ }
+    {
+        let s = self.state;
+        let w = s.work;
+        let n = frame::gate(reclaim::is_reclaim(w), s, array, map, hold);
+        if n != 0 {
+            return refused(n, s);
+        }
+        let found = reclaim::picked(s, map);
+        let t = reclaim::reclaim_stride(s, array, map, found);
+        strode(t)
+    }
+
+    /// One stride of a format: 1, for geometry, lengths and its own work under way.
+    pub fn format(self, array: &mut [u8], map: &mut [u16], hold: &[u8], g: Geometry) -> Reply
+        ensures { λ r. ⌜ _≡_ {A = Outcome} (record { answer = number (r .answer); world = record { array = now (array .exit); map = now (map .exit); hold = now (hold .entry); state = r .device .state } }) (exec (format g) (record { array = now (array .entry); map = now (map .entry); hold = now (hold .entry); state = self .state })) ⌝ }
+    {
+        let s = self.state;
+        let w = s.work;
+        if !ranges::lent_ok(g, array, map, hold) {
+            return answered(Answer::Refused(Refusal::BadFrame), s);
+        }
+        if !format::work_ok(g, s, array, w) {
+            return answered(Answer::Refused(Refusal::BadFrame), s);
+        }
+        let k = format::strides_done(g, s, w);
+        let t = format::format_stride(g, array, map, k);
+        strode(t)
+    }
+
+    /// Makes map and state from what stands on the array: 1, for geometry and lengths; 2, 3, 4.
+    pub fn recover(self, array: &[u8], map: &mut [u16], hold: &[u8], g: Geometry) -> Reply
+        ensures { λ r. ⌜ _≡_ {A = Outcome} (record { answer = number (r .answer); world = record { array = now (array .entry); map = now (map .exit); hold = now (hold .entry); state = r .device .state } }) (exec (recover g) (record { array = now (array .entry); map = now (map .entry); hold = now (hold .entry); state = self .state })) ⌝ }
+    {
+        let s = self.state;
+        if !ranges::lent_ok(g, array, map, hold) {
+            return answered(Answer::Refused(Refusal::BadFrame), s);
+        }
+        let found = checkpoint::newest(array, ranges::map_pages(g), g.pages as usize);
+        match found {
+            Found::Nothing => answered(Answer::Refused(Refusal::NoCheckpoint), s),
+            Found::At(k) => strode(recover::recover_from(s, array, map, g, k)),
+        }
     }
 }
