@@ -5,11 +5,12 @@ ghost use mathlib.Core.Path.{_≡_};
 ghost use mathlib.Core.Bool.{cond};
 ghost use lib.ListN.{length};
 ghost use Rattle.model.specs.Answers.{number, refused};
-ghost use Rattle.model.specs.Commands.{begin, write, lone, commit, abort};
+ghost use Rattle.model.specs.Commands.{format, recover, begin, write, lone, commit, abort, checkpoint, reclaim};
 ghost use Rattle.numbers.specs.Numbers.{numbersOf};
 ghost use Rattle.capi.specs.Calls.{Result, called, readCalled, partCalled, copied};
 use device::Device;
 use device::Reply;
+use model::Geometry;
 
 /// The answer's number of a reply; unless it refuses, its state is stored.
 fn finish(state: &mut [u32], r: Reply) -> u8
@@ -169,4 +170,96 @@ pub extern "C" fn capi_read_part(
         return n;
     }
     bytes::copy(part, to)
+}
+
+/// One stride of a checkpoint.
+#[no_mangle]
+pub extern "C" fn capi_checkpoint(
+    array: &mut [u8],
+    map: &[u16],
+    hold: &[u8],
+    state: &mut [u32],
+) -> u8
+    ensures { λ r. ⌜ _≡_ {A = Result} (record { answer = r; array = now (array .exit); map = now (map .entry); hold = now (hold .entry); numbers = now (state .exit) }) (called checkpoint (now (array .entry)) (now (map .entry)) (now (hold .entry)) (now (state .entry))) ⌝ }
+{
+    if state.len() != 1308 {
+        return 1;
+    }
+    let s = numbers::load(state);
+    let d = Device { state: s };
+    let r = d.checkpoint(array, map, hold);
+    finish(state, r)
+}
+
+/// One stride of a reclaim.
+#[no_mangle]
+pub extern "C" fn capi_reclaim(
+    array: &mut [u8],
+    map: &mut [u16],
+    hold: &[u8],
+    state: &mut [u32],
+) -> u8
+    ensures { λ r. ⌜ _≡_ {A = Result} (record { answer = r; array = now (array .exit); map = now (map .exit); hold = now (hold .entry); numbers = now (state .exit) }) (called reclaim (now (array .entry)) (now (map .entry)) (now (hold .entry)) (now (state .entry))) ⌝ }
+{
+    if state.len() != 1308 {
+        return 1;
+    }
+    let s = numbers::load(state);
+    let d = Device { state: s };
+    let r = d.reclaim(array, map, hold);
+    finish(state, r)
+}
+
+/// One stride of a format.
+#[no_mangle]
+pub extern "C" fn capi_format(
+    array: &mut [u8],
+    map: &mut [u16],
+    hold: &[u8],
+    state: &mut [u32],
+    blocks: u16,
+    pages: u16,
+    logical: u16,
+) -> u8
+    ensures { λ r. ⌜ _≡_ {A = Result} (record { answer = r; array = now (array .exit); map = now (map .exit); hold = now (hold .entry); numbers = now (state .exit) }) (called (format (record { blocks = blocks; pages = pages; logical = logical })) (now (array .entry)) (now (map .entry)) (now (hold .entry)) (now (state .entry))) ⌝ }
+{
+    if state.len() != 1308 {
+        return 1;
+    }
+    let s = numbers::load(state);
+    let d = Device { state: s };
+    let g = Geometry {
+        blocks,
+        pages,
+        logical,
+    };
+    let r = d.format(array, map, hold, g);
+    finish(state, r)
+}
+
+/// Makes map and state from what stands on the array.
+#[no_mangle]
+pub extern "C" fn capi_recover(
+    array: &[u8],
+    map: &mut [u16],
+    hold: &[u8],
+    state: &mut [u32],
+    blocks: u16,
+    pages: u16,
+    logical: u16,
+) -> u8
+    ensures { λ r. ⌜ _≡_ {A = Result} (record { answer = r; array = now (array .entry); map = now (map .exit); hold = now (hold .entry); numbers = now (state .exit) }) (called (recover (record { blocks = blocks; pages = pages; logical = logical })) (now (array .entry)) (now (map .entry)) (now (hold .entry)) (now (state .entry))) ⌝ }
+{
+    if state.len() != 1308 {
+        return 1;
+    }
+    let s = numbers::load(state);
+    let d = Device { state: s };
+    let g = Geometry {
+        blocks,
+        pages,
+        logical,
+    };
+    let r = d.recover(array, map, hold, g);
+    finish(state, r)
 }
