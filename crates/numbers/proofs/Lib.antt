@@ -1,0 +1,4 @@
+pub mod Laid
+pub mod Taken
+pub mod Placed
+pub mod Read

@@ -1,0 +1,70 @@
+-- `numbers::load_place` meets its contract: each field is what was read for it. Assumes nothing.
+use borrow.Author.Needs.{needs}
+use Rattle.numbers.proofs.Read.{place-read}
+use Rattle.numbers.proofs.load_place.Statement.{statement}
+use Rattle.numbers.proofs.load_place.Tie as tie
+
+mul-at : tie.Need-mul-at
+mul-at c = search needs
+
+add-at : tie.Need-add-at
+add-at c = search needs
+
+add-load-halves : tie.Need-add-load-halves
+add-load-halves c = search needs
+
+slice-aggregate-load-halves : tie.Need-slice-aggregate-load-halves
+slice-aggregate-load-halves c = search needs
+
+load-halves-requires : tie.Need-load-halves-requires
+load-halves-requires c κs = search needs
+
+add-load-halves-2 : tie.Need-add-load-halves-2
+add-load-halves-2 c = search needs
+
+slice-aggregate-load-halves-2 : tie.Need-slice-aggregate-load-halves-2
+slice-aggregate-load-halves-2 c = search needs
+
+load-halves-requires-2 : tie.Need-load-halves-requires-2
+load-halves-requires-2 c κs = search needs
+
+mul-t6 : tie.Need-mul-t6
+mul-t6 c = search needs
+
+shared-slice-read-t13 : tie.Need-shared-slice-read-t13
+shared-slice-read-t13 c = search needs
+
+add-byte : tie.Need-add-byte
+add-byte c = search needs
+
+mul-byte : tie.Need-mul-byte
+mul-byte c = search needs
+
+shared-slice-read-byte : tie.Need-shared-slice-read-byte
+shared-slice-read-byte c = search needs
+
+byte-requires : tie.Need-byte-requires
+byte-requires c κs = search needs
+
+returns : tie.Need-returns
+returns c = place-read (c .before .before .before .before .before .before .before .before .before .before .args .from .now) (c .before .before .before .before .before .before .before .before .before .before .args .i) _ _ _ (c .byte .ensures) (c .before .before .before .before .before .before .before .load-halves .ensures) (c .before .before .before .before .load-halves2 .ensures)
+
+pub load-place-spec : {M : Type 1} → statement M
+load-place-spec =
+    tie.close
+    (tie.spec
+    mul-at
+    add-at
+    add-load-halves
+    slice-aggregate-load-halves
+    load-halves-requires
+    add-load-halves-2
+    slice-aggregate-load-halves-2
+    load-halves-requires-2
+    mul-t6
+    shared-slice-read-t13
+    add-byte
+    mul-byte
+    shared-slice-read-byte
+    byte-requires
+    returns)

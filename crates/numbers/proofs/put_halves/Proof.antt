@@ -1,0 +1,71 @@
+-- `numbers::put_halves` meets its contract. The loop's invariant: the first i numbers are laid. Assumes nothing.
+use mathlib.Core.Path.{_≡_}
+use Prim.Native.Nat.{_+_, _-_, _≤_}
+use native.Mathlib.Omega.{arith}
+use lib.ListN.{length, take, length-set}
+use borrow.Author.Needs.{needs}
+use Rattle.numbers.specs.Numbers.{Laid}
+use Rattle.numbers.proofs.Laid.{laid-none, laid-next, laid-end}
+use Rattle.numbers.proofs.put_halves.Statement.{statement}
+use Rattle.numbers.proofs.put_halves.Tie as tie
+
+abbrev Inv-loop : tie.InvT-loop
+Inv-loop to₀ at list i₀ to i = (i ≤ length list) × ((at + length list ≤ length to₀) × ((length to ≡ length to₀) × Laid to₀ at i (take i list) to))
+
+abbrev μ-loop : tie.MeasureT-loop
+μ-loop to₀ at list i₀ to i = length list - i
+
+loop-holds : tie.Need-loop-holds Inv-loop μ-loop
+loop-holds c = (search needs, (search needs, (search needs, laid-none _ _ (omega arith))))
+
+mul-to : tie.Need-mul-to Inv-loop μ-loop
+mul-to c = search needs
+
+shared-slice-read-to : tie.Need-shared-slice-read-to Inv-loop μ-loop
+shared-slice-read-to c = search needs
+
+cast-to : tie.Need-cast-to Inv-loop μ-loop
+cast-to c = omega (arith, c .shared-slice-known .given (c .before .before .loop .i))
+
+add-to : tie.Need-add-to Inv-loop μ-loop
+add-to c = search needs
+
+mul-to-2 : tie.Need-mul-to-2 Inv-loop μ-loop
+mul-to-2 c = search needs
+
+slice-write-to : tie.Need-slice-write-to Inv-loop μ-loop
+slice-write-to c = search needs
+
+add-i : tie.Need-add-i Inv-loop μ-loop
+add-i c = search needs
+
+loop-less : tie.Need-loop-less Inv-loop μ-loop
+loop-less c = search needs
+
+loop-again : tie.Need-loop-again Inv-loop μ-loop
+loop-again c = (search needs, (search needs, (simp length-set (search needs), laid-next (c .before .before .before .args .list .now) (c .before .before .loop .inv .1 .1 .1) (omega arith) (omega arith))))
+
+same-length : tie.Need-same-length Inv-loop μ-loop
+same-length c = search needs
+
+returns : tie.Need-returns Inv-loop μ-loop
+returns c = laid-end (c .before .before .args .list .now) (c .before .loop .inv .1 .1 .1) (omega arith)
+
+pub put-halves-spec : {M : Type 1} → statement M
+put-halves-spec =
+    tie.close
+    (tie.spec
+    Inv-loop
+    μ-loop
+    loop-holds
+    mul-to
+    shared-slice-read-to
+    cast-to
+    add-to
+    mul-to-2
+    slice-write-to
+    add-i
+    loop-less
+    loop-again
+    same-length
+    returns)
