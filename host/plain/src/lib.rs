@@ -1,0 +1,1 @@
+//! The flash layer of document 01 in plain Rust.
