@@ -1,1 +1,172 @@
-fn main() {}
+//! Benchmarks: the proved layer beside the plain Rust one, in one run on the same arrays. Each time is the least of several rounds taken in
+//! turn. The exit status is 1 where a goal is missed.
+mod layer;
+mod pages;
+mod session;
+mod stack;
+mod table;
+
+use bokuhira::{Answer, Call, Geometry, State, Store, HOLD, STATE};
+use layer::{name, Layer, GEOMETRIES, LAYERS};
+use session::COMMANDS;
+use std::time::Instant;
+use table::Table;
+
+const HELP: &str = "bench: the proved layer beside plain Rust, as tables of ratios
+
+  bench [pages | commands | recover | wear | stack]...     some of the tables; all where none is named
+
+Rounds are taken in turn and the least time counts. The exit status is 1 where a goal is missed.";
+
+/// What two readings of the clock take.
+fn clock() -> f64 {
+    (0..1000).map(|_| Instant::now().elapsed().as_nanos() as f64).fold(f64::MAX, f64::min)
+}
+
+fn commands(table: &mut Table) {
+    let clock = clock();
+    for (g, turns) in GEOMETRIES.into_iter().zip([2000, 1200, 1200]) {
+        let mut least = [[f64::MAX; 8]; 2];
+        let mut calls = [0; 8];
+        for round in 0..15 {
+            let mut left = Vec::new();
+            for (i, layer) in LAYERS.into_iter().enumerate() {
+                let (tally, store) = session::run(layer, g, turns, 7, clock);
+                for c in 0..8 {
+                    least[i][c] = least[i][c].min(tally.ns[c] / tally.calls[c].max(1) as f64);
+                }
+                calls = tally.calls;
+                left.push(store);
+            }
+            assert!(left[0] == left[1], "round {round}: the two layers left different stores");
+        }
+        table.head(&format!("a call, {}", name(g)));
+        for c in 0..8 {
+            assert!(calls[c] > 0, "no {} in the session", COMMANDS[c]);
+            table.line(COMMANDS[c], least[0][c], least[1][c], 1.0);
+        }
+    }
+}
+
+/// The least time of a recovery by each layer, from nothing but the array.
+fn recovery(g: Geometry, s: &Store, rounds: usize) -> [f64; 2] {
+    let mut least = [f64::MAX; 2];
+    for _ in 0..rounds {
+        let mut left = Vec::new();
+        for (i, layer) in LAYERS.into_iter().enumerate() {
+            let mut dark = Store { array: s.array.clone(), map: vec![7; s.map.len()], hold: vec![9; HOLD], state: vec![0; STATE] };
+            let before = Instant::now();
+            let answer = layer.call(std::hint::black_box(&mut dark), &Call::Recover(g));
+            least[i] = least[i].min(before.elapsed().as_nanos() as f64);
+            assert_eq!(answer, 0);
+            left.push(dark);
+        }
+        assert!(left[0] == left[1], "the two layers recovered different stores");
+    }
+    least
+}
+
+/// The pages that a recovery scans: those of every listed block.
+fn scanned(s: &Store) -> usize {
+    let state = State::decode(&s.state).unwrap();
+    (state.zones.available.len() + state.zones.unavailable.len()) * state.geometry.pages as usize
+}
+
+fn recover(table: &mut Table) {
+    table.head("recover");
+    for g in GEOMETRIES {
+        for (word, blocks) in [("few", 3), ("all", g.blocks as usize - 2)] {
+            let s = session::listed(g, blocks);
+            let [proved, plain] = recovery(g, &s, if g.blocks > 8 { 41 } else { 401 });
+            table.line(&format!("{}, {word} blocks listed: {} pages scanned", name(g), scanned(&s)), proved, plain, 1.2);
+        }
+    }
+    let g = GEOMETRIES[2];
+    println!("\n| {}: pages scanned | proved | ns a page |\n|---|---|---|", name(g));
+    for blocks in [3, 16, 32, 64, 96, 126] {
+        let s = session::listed(g, blocks);
+        let [proved, _] = recovery(g, &s, 21);
+        println!("| {} | {:.0} µs | {:.0} |", scanned(&s), proved / 1e3, proved / scanned(&s) as f64);
+    }
+}
+
+fn wear() {
+    println!("\n| a random session | calls | pages written | programs a page | erases a page |\n|---|---|---|---|---|");
+    for (g, turns) in GEOMETRIES.into_iter().zip([60_000, 60_000, 60_000]) {
+        let (t, _) = session::run(Layer::Proved, g, turns, 11, 0.0);
+        let per = |n: u64| n as f64 / t.pages as f64;
+        println!("| {} | {} | {} | {:.2} | {:.3} |", name(g), t.calls.iter().sum::<u64>(), t.pages, per(t.programs), per(t.erases));
+    }
+}
+
+fn stack(table: &mut Table) {
+    let g = GEOMETRIES[2];
+    let full = session::listed(g, g.blocks as usize - 2);
+    let (_, used) = session::run(Layer::Proved, g, 1200, 7, 0.0);
+    let mut room = used.clone();
+    while room.checkpoint() == Answer::More {}
+    assert_eq!(room.begin(0xABCDEF), Answer::Done);
+    let data = vec![3; 512];
+    assert_eq!(room.write(0xABCDEF, 1, &data), Answer::Done);
+    println!("\n| stack of a call, {} | bytes |\n|---|---|", name(g));
+    let calls: [(&str, Call, &Store, &[u8]); 10] = [
+        ("format", Call::Format(g), &full, &[255]),
+        ("recover", Call::Recover(g), &full, &[0]),
+        ("begin", Call::Begin(0xBCDEF0), &room, &[0]),
+        ("write", Call::Write { id: 0xABCDEF, lpn: 3, data: data.clone() }, &room, &[0]),
+        ("lone write", Call::Lone { lpn: 3, data }, &room, &[0]),
+        ("commit", Call::Commit(0xABCDEF), &room, &[0]),
+        ("abort", Call::Abort(0xABCDEF), &room, &[0]),
+        ("read", Call::Read(1), &room, &[0, 14]),
+        ("checkpoint", Call::Checkpoint, &room, &[255]),
+        ("reclaim", Call::Reclaim, &room, &[0, 255]),
+    ];
+    for (what, call, store, answers) in calls {
+        // several strides: the deepest counts
+        let mut s = store.clone();
+        let mut deepest = 0;
+        loop {
+            let mut answer = 1;
+            let bytes = stack::used(&mut || answer = s.call(&call).number());
+            deepest = deepest.max(bytes);
+            if answer != 255 {
+                assert!(answer == 0 || answers.contains(&answer), "{what} answered {answer}");
+                break;
+            }
+        }
+        println!("| {what} | {deepest} |");
+        table.hold(&format!("stack of {what}"), deepest <= 64 * 1024);
+    }
+}
+
+fn main() {
+    let words: Vec<String> = std::env::args().skip(1).collect();
+    const TABLES: [&str; 5] = ["pages", "commands", "recover", "wear", "stack"];
+    if let Some(other) = words.iter().find(|w| !TABLES.contains(&w.as_str())) {
+        let asked = other == "help" || other == "--help" || other == "-h";
+        if !asked {
+            eprintln!("bench: no table {other}\n");
+        }
+        println!("{HELP}");
+        std::process::exit(if asked { 0 } else { 2 });
+    }
+    let wanted = |what: &str| words.is_empty() || words.iter().any(|w| w == what);
+    let mut table = Table::default();
+    if wanted("pages") {
+        table.head("a page");
+        pages::run(&mut table);
+    }
+    if wanted("commands") {
+        commands(&mut table);
+    }
+    if wanted("recover") {
+        recover(&mut table);
+    }
+    if wanted("wear") {
+        wear();
+    }
+    if wanted("stack") {
+        stack(&mut table);
+    }
+    std::process::exit(!table.finish() as i32);
+}

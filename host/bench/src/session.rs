@@ -1,0 +1,168 @@
+//! A long random session, each call timed: changes, lone writes and reads, with a reclaim and a checkpoint whenever the zone is short.
+use crate::layer::{Layer, Random};
+use bokuhira::{Answer, Call, Geometry, State, Store};
+use std::time::Instant;
+
+pub const COMMANDS: [&str; 8] = ["begin", "write", "lone write", "commit", "abort", "read", "checkpoint, a stride", "reclaim, a stride"];
+
+fn column(call: &Call) -> usize {
+    match call {
+        Call::Begin(_) => 0,
+        Call::Write { .. } => 1,
+        Call::Lone { .. } => 2,
+        Call::Commit(_) => 3,
+        Call::Abort(_) => 4,
+        Call::Read(_) => 5,
+        Call::Checkpoint => 6,
+        Call::Reclaim => 7,
+        Call::Format(_) | Call::Recover(_) => unreachable!("not part of a session"),
+    }
+}
+
+/// What a session took and did.
+#[derive(Clone, Default)]
+pub struct Tally {
+    pub ns: [f64; 8],
+    pub calls: [u64; 8],
+    /// pages that callers wrote, and the operations on the flash
+    pub pages: u64,
+    pub programs: u64,
+    pub erases: u64,
+}
+
+struct Session {
+    layer: Layer,
+    store: Store,
+    tally: Tally,
+    /// what a pair of clock readings takes
+    clock: f64,
+}
+
+impl Session {
+    fn call(&mut self, call: &Call) -> u8 {
+        // a read is over in less than a clock's reading: several under one
+        let times = if matches!(call, Call::Read(_)) { 16 } else { 1 };
+        let before = Instant::now();
+        let mut answer = 0;
+        for _ in 0..times {
+            answer = self.layer.call(std::hint::black_box(&mut self.store), std::hint::black_box(call));
+        }
+        let took = before.elapsed().as_nanos() as f64;
+        let c = column(call);
+        self.tally.ns[c] += (took - self.clock).max(0.0);
+        self.tally.calls[c] += times;
+        answer
+    }
+
+    fn count(&mut self, programs: u64, erases: u64) {
+        self.tally.programs += programs;
+        self.tally.erases += erases;
+    }
+
+    /// Makes room: one reclaim, where it gains anything, and one checkpoint.
+    fn make_room(&mut self) {
+        loop {
+            match self.call(&Call::Reclaim) {
+                255 => self.count(1, 0),
+                0 => break self.count(0, 1),
+                _ => break,
+            }
+        }
+        let mut first = true;
+        loop {
+            let answer = self.call(&Call::Checkpoint);
+            assert!(answer == 0 || answer == 255, "a checkpoint answered {answer}");
+            // only the first stride can be an erase, and then no page is programmed yet
+            let erased = first && State::decode(&self.store.state).unwrap().work.stride == 0 && answer == 255;
+            self.count(!erased as u64, erased as u64);
+            first = false;
+            if answer == 0 {
+                return;
+            }
+        }
+    }
+
+    /// Runs a call that may need a page; where the zone is short, room is made and it is tried once more.
+    fn page(&mut self, call: &Call) -> u8 {
+        match self.call(call) {
+            12 => {
+                self.make_room();
+                self.call(call)
+            }
+            answer => answer,
+        }
+    }
+}
+
+/// Runs a session of so many turns from a formatted store, and gives what it took and the store it left.
+pub fn run(layer: Layer, g: Geometry, turns: u32, seed: u64, clock: f64) -> (Tally, Store) {
+    let mut s = Session { layer, store: Store::formatted(g).expect("a geometry in range"), tally: Tally::default(), clock };
+    let mut random = Random::new(seed);
+    let datas: Vec<Vec<u8>> = (0..16).map(|_| random.page()).collect();
+    let mut id = 0;
+    for _ in 0..turns {
+        let lpn = |r: &mut Random| r.below(g.logical as u64) as u16;
+        let data = |r: &mut Random| datas[r.below(16) as usize].clone();
+        match random.below(10) {
+            0..=3 => {
+                id += 1;
+                assert_eq!(s.call(&Call::Begin(id)), 0);
+                let mut written = 0;
+                for _ in 0..1 + random.below(6) {
+                    let call = Call::Write { id, lpn: lpn(&mut random), data: data(&mut random) };
+                    if s.page(&call) == 0 {
+                        written += 1;
+                    }
+                }
+                let programmed = written.max(1) - 1;
+                if random.below(10) == 0 {
+                    assert_eq!(s.call(&Call::Abort(id)), 0);
+                    s.count(programmed, 0);
+                } else if s.page(&Call::Commit(id)) == 0 {
+                    s.count(written, 0);
+                } else {
+                    assert_eq!(s.call(&Call::Abort(id)), 0);
+                    s.count(programmed, 0);
+                }
+                s.tally.pages += written;
+            }
+            4..=6 => {
+                let call = Call::Lone { lpn: lpn(&mut random), data: data(&mut random) };
+                if s.page(&call) == 0 {
+                    s.count(1, 0);
+                    s.tally.pages += 1;
+                }
+            }
+            _ => {
+                s.call(&Call::Read(lpn(&mut random)));
+            }
+        }
+    }
+    (s.tally, s.store)
+}
+
+/// A store in which so many blocks are listed: eight changes stay open, and one of their pages is put among the lone writes ever so often, so
+/// that every block that fills up stays unavailable. Also the number of whole pages that a recovery scans there.
+pub fn listed(g: Geometry, blocks: usize) -> Store {
+    let mut s = Store::formatted(g).expect("a geometry in range");
+    let mut random = Random::new(g.blocks as u64);
+    let every = if g.pages > 8 { 16 } else { 4 };
+    (1..=8).for_each(|id| assert_eq!(s.begin(id), Answer::Done));
+    for turn in 0.. {
+        let data = random.page();
+        let lpn = random.below(g.logical as u64) as u16;
+        let answer = if turn % every == 0 { s.write(1 + (turn / every % 8) as u32, lpn, &data) } else { s.lone(lpn, &data) };
+        match answer.number() {
+            0 => (),
+            12 => {
+                let z = State::decode(&s.state).unwrap().zones;
+                if z.available.len() + z.unavailable.len() >= blocks || z.free.is_empty() {
+                    return s;
+                }
+                while s.checkpoint() == Answer::More {}
+            }
+            other => panic!("{answer:?} {other} in turn {turn}"),
+        }
+    }
+    unreachable!()
+}
