@@ -1,1 +1,132 @@
-//! The flash layer of document 01 in plain Rust.
+//! The flash layer of document 01 in plain Rust, written from the papers and apart from the proved one.
+//!
+//! Ten functions over lent buffers: the array, the map, the hold and the 2,366 bytes of a state. Each answers 0 for done, 255 for more,
+//! else the number of a refusal, which leaves every buffer as it was. Any bytes of any length may be lent.
+
+mod change;
+mod flash;
+mod format;
+mod frame;
+mod page;
+mod reclaim;
+mod recover;
+mod state;
+mod strides;
+mod zones;
+
+use state::State;
+
+/// The bytes of a page and of its data.
+pub const PAGE: usize = 528;
+pub const DATA: usize = 512;
+/// The bytes of the hold and of a state.
+pub const HOLD: usize = 4096;
+pub const STATE: usize = 2366;
+
+const PLACES: usize = 8;
+/// The most pages of a transaction.
+const LONGEST: usize = 64;
+/// The map entry of a logical page that was never written.
+const UNMAPPED: u16 = 0xFFFF;
+/// The highest version and the highest checkpoint number; the one above is no identifier either.
+const LAST: u32 = 0xFFFF_FFFE;
+
+/// Why a call is refused; the numbers are document 01's.
+#[derive(Clone, Copy, PartialEq, Eq, Debug)]
+enum Refusal {
+    BadFrame = 1,
+    NoCheckpoint,
+    BadCheckpoint,
+    BadPage,
+    BadLogicalPage,
+    BadIdentifier,
+    IdentifierLive,
+    NotBegun,
+    PlacesFull,
+    TooLong,
+    BadLength,
+    ZoneShort,
+    VersionsSpent,
+    NeverWritten,
+    NoGain,
+    ReserveShort,
+    Busy,
+}
+
+/// What a call that is carried out answers.
+#[derive(Clone, Copy, PartialEq, Eq, Debug)]
+enum Done {
+    All = 0,
+    More = 255,
+}
+
+type Outcome = Result<Done, Refusal>;
+
+fn number(outcome: Outcome) -> u8 {
+    match outcome {
+        Ok(done) => done as u8,
+        Err(refusal) => refusal as u8,
+    }
+}
+
+/// Refuses where the condition does not hold.
+fn ensure(holds: bool, refusal: Refusal) -> Result<(), Refusal> {
+    if holds {
+        Ok(())
+    } else {
+        Err(refusal)
+    }
+}
+
+/// One stride of a format to B blocks of P pages with L logical pages.
+pub fn format(array: &mut [u8], map: &mut [u16], hold: &[u8], state: &mut [u8], blocks: u16, pages: u16, logical: u16) -> u8 {
+    number(State::edit(state).and_then(|s| format::format(array, map, hold, s, flash::Geometry::new(blocks, pages, logical))))
+}
+
+/// Makes map and state from what stands on the array.
+pub fn recover(array: &[u8], map: &mut [u16], hold: &[u8], state: &mut [u8], blocks: u16, pages: u16, logical: u16) -> u8 {
+    number(State::edit(state).and_then(|s| recover::recover(array, map, hold, s, flash::Geometry::new(blocks, pages, logical))))
+}
+
+/// Opens a transaction in the lowest free place.
+pub fn begin(array: &[u8], map: &[u16], hold: &[u8], state: &mut [u8], id: u32) -> u8 {
+    number(State::edit(state).and_then(|s| change::begin(array, map, hold, s, id)))
+}
+
+/// Holds a page for a transaction; the page held before it is programmed.
+pub fn write(array: &mut [u8], map: &[u16], hold: &mut [u8], state: &mut [u8], id: u32, lpn: u16, data: &[u8]) -> u8 {
+    number(State::edit(state).and_then(|s| change::write(array, map, hold, s, id, lpn, data)))
+}
+
+/// Programs a page that is a transaction by itself.
+pub fn lone(array: &mut [u8], map: &mut [u16], hold: &[u8], state: &mut [u8], lpn: u16, data: &[u8]) -> u8 {
+    number(State::edit(state).and_then(|s| change::lone(array, map, hold, s, lpn, data)))
+}
+
+/// Programs the held page as the transaction's mark and enters its pages in the map.
+pub fn commit(array: &mut [u8], map: &mut [u16], hold: &[u8], state: &mut [u8], id: u32) -> u8 {
+    number(State::edit(state).and_then(|s| change::commit(array, map, hold, s, id)))
+}
+
+/// Forgets a transaction.
+pub fn abort(array: &[u8], map: &[u16], hold: &[u8], state: &mut [u8], id: u32) -> u8 {
+    number(State::edit(state).and_then(|s| change::abort(array, map, hold, s, id)))
+}
+
+/// The answer and, where it is 0, the offset in the array of the page's 512 bytes; else 0.
+pub fn read(array: &[u8], map: &[u16], hold: &[u8], state: &[u8], lpn: u16) -> (u8, usize) {
+    match State::view(state).and_then(|s| change::read(array, map, hold, s, lpn)) {
+        Ok(at) => (0, at),
+        Err(refusal) => (refusal as u8, 0),
+    }
+}
+
+/// One stride of a checkpoint.
+pub fn checkpoint(array: &mut [u8], map: &[u16], hold: &[u8], state: &mut [u8]) -> u8 {
+    number(State::edit(state).and_then(|s| strides::checkpoint(array, map, hold, s)))
+}
+
+/// One stride of a reclaim.
+pub fn reclaim(array: &mut [u8], map: &mut [u16], hold: &[u8], state: &mut [u8]) -> u8 {
+    number(State::edit(state).and_then(|s| reclaim::reclaim(array, map, hold, s)))
+}

@@ -1,0 +1,86 @@
+//! The array as pages and blocks.
+use crate::page::{is_erased, Page};
+use crate::PAGE;
+use std::ops::Range;
+
+/// Blocks, pages in each, and logical pages.
+#[derive(Clone, Copy, PartialEq, Eq)]
+pub struct Geometry {
+    pub blocks: usize,
+    pub pages: usize,
+    pub logical: usize,
+}
+
+impl Geometry {
+    pub fn new(blocks: u16, pages: u16, logical: u16) -> Geometry {
+        Geometry { blocks: blocks.into(), pages: pages.into(), logical: logical.into() }
+    }
+
+    pub fn in_range(self) -> bool {
+        (8..=128).contains(&self.blocks)
+            && (8..=64).contains(&self.pages)
+            && (1..=1024).contains(&self.logical)
+            && self.logical <= (self.blocks - 6) * self.pages
+    }
+
+    pub fn array_len(self) -> usize {
+        self.blocks * self.pages * PAGE
+    }
+
+    /// The map pages of a checkpoint.
+    pub fn map_pages(self) -> usize {
+        self.logical.div_ceil(256)
+    }
+
+    /// The page numbers of a block.
+    pub fn block(self, b: usize) -> Range<usize> {
+        b * self.pages..(b + 1) * self.pages
+    }
+
+    /// Whether a page number is one of a data block.
+    pub fn is_data_page(self, n: usize) -> bool {
+        (2 * self.pages..self.blocks * self.pages).contains(&n)
+    }
+}
+
+pub fn pages(array: &[u8]) -> &[Page] {
+    array.as_chunks().0
+}
+
+pub fn pages_mut(array: &mut [u8]) -> &mut [Page] {
+    array.as_chunks_mut().0
+}
+
+pub fn erase(block: &mut [Page]) {
+    block.as_flattened_mut().fill(0xFF);
+}
+
+/// The clean pages of a block: those after its last that is not erased.
+pub fn clean_pages(block: &[Page]) -> usize {
+    block.iter().rev().take_while(|p| is_erased(p)).count()
+}
+
+/// A block without clean pages.
+pub fn is_full(block: &[Page]) -> bool {
+    block.last().is_some_and(|p| !is_erased(p))
+}
+
+/// The page to be programmed next, if `least` pages or more are clean in the available blocks.
+pub fn next_page(pages: &[Page], g: Geometry, available: &[u8], least: usize) -> Option<usize> {
+    let mut next = None;
+    let mut clean = 0;
+    for &b in available {
+        let block = g.block(b.into());
+        if next.is_none() {
+            clean = clean_pages(&pages[block.clone()]);
+            next = (clean > 0).then_some(block.end - clean);
+        } else {
+            // no more are counted than are asked for
+            clean += clean_pages(&pages[block.end - g.pages.min(least - clean)..block.end]);
+        }
+        if clean >= least {
+            return next;
+        }
+    }
+    None
+}

@@ -1,0 +1,201 @@
+//! What the tests share: the two layers, random numbers, and cuts.
+#![allow(dead_code)]
+use bokuhira::{Call, Geometry, Store, DATA, PAGE};
+use std::io::Write;
+
+/// Says a line even where the test passes: the harness keeps back what `println!` writes.
+pub fn say(line: &str) {
+    writeln!(std::io::stderr(), "{line}").unwrap();
+}
+
+/// The layer that a call goes to: the proved library, or the plain one written apart from it.
+#[derive(Clone, Copy, PartialEq, Eq, Debug)]
+pub enum Layer {
+    Proved,
+    Plain,
+}
+
+pub const LAYERS: [Layer; 2] = [Layer::Proved, Layer::Plain];
+
+impl Layer {
+    /// Carries a call out and gives its number: 0 done, 255 more, else the refusal.
+    pub fn call(self, store: &mut Store, call: &Call) -> u8 {
+        match self {
+            Layer::Proved => store.call(call).number(),
+            Layer::Plain => plain_call(store, call),
+        }
+    }
+
+    /// The part that a read hands back, or the refusal.
+    pub fn read(self, store: &Store, lpn: u16) -> Result<&[u8], u8> {
+        match self {
+            Layer::Proved => store.read(lpn).map_err(|r| r.0),
+            Layer::Plain => match plain::read(&store.array, &store.map, &store.hold, &store.state, lpn) {
+                (0, at) => Ok(&store.array[at..at + DATA]),
+                (n, _) => Err(n),
+            },
+        }
+    }
+}
+
+fn plain_call(store: &mut Store, call: &Call) -> u8 {
+    let Store { array, map, hold, state } = store;
+    match call {
+        Call::Format(g) => plain::format(array, map, hold, state, g.blocks, g.pages, g.logical),
+        Call::Recover(g) => plain::recover(array, map, hold, state, g.blocks, g.pages, g.logical),
+        Call::Begin(id) => plain::begin(array, map, hold, state, *id),
+        Call::Write { id, lpn, data } => plain::write(array, map, hold, state, *id, *lpn, data),
+        Call::Lone { lpn, data } => plain::lone(array, map, hold, state, *lpn, data),
+        Call::Commit(id) => plain::commit(array, map, hold, state, *id),
+        Call::Abort(id) => plain::abort(array, map, hold, state, *id),
+        Call::Read(lpn) => plain::read(array, map, hold, state, *lpn).0,
+        Call::Checkpoint => plain::checkpoint(array, map, hold, state),
+        Call::Reclaim => plain::reclaim(array, map, hold, state),
+    }
+}
+
+/// The kind of a call, 0 to 9, and its name.
+pub fn kind(call: &Call) -> usize {
+    match call {
+        Call::Format(_) => 0,
+        Call::Recover(_) => 1,
+        Call::Begin(_) => 2,
+        Call::Write { .. } => 3,
+        Call::Lone { .. } => 4,
+        Call::Commit(_) => 5,
+        Call::Abort(_) => 6,
+        Call::Read(_) => 7,
+        Call::Checkpoint => 8,
+        Call::Reclaim => 9,
+    }
+}
+
+pub const NAMES: [&str; 10] = ["format", "recover", "begin", "write", "lone", "commit", "abort", "read", "checkpoint", "reclaim"];
+
+/// How often each command gave each answer.
+pub struct Met([[usize; 256]; 10]);
+
+impl Met {
+    pub fn new() -> Met {
+        Met([[0; 256]; 10])
+    }
+
+    pub fn note(&mut self, call: &Call, answer: u8) {
+        self.0[kind(call)][answer as usize] += 1;
+    }
+
+    pub fn add(&mut self, other: &Met) {
+        self.0.iter_mut().flatten().zip(other.0.iter().flatten()).for_each(|(a, b)| *a += b);
+    }
+
+    pub fn calls(&self) -> usize {
+        self.0.iter().flatten().sum()
+    }
+
+    pub fn times(&self, command: &str, answer: u8) -> usize {
+        let at = NAMES.iter().position(|n| *n == command).expect("a command");
+        self.0[at][answer as usize]
+    }
+
+    /// How often any command gave an answer.
+    pub fn in_all(&self, answer: u8) -> usize {
+        self.0.iter().map(|a| a[answer as usize]).sum()
+    }
+
+    /// A line for each command.
+    pub fn say(&self) {
+        for (name, answers) in NAMES.iter().zip(&self.0) {
+            let met: Vec<String> = (0..256).filter(|n| answers[*n] > 0).map(|n| format!("{n}:{}", answers[n])).collect();
+            say(&format!("  {name}: {}", met.join(" ")));
+        }
+    }
+}
+
+/// Random numbers by splitmix64: a seed always gives the same ones.
+pub struct Rng(u64);
+
+impl Rng {
+    pub fn new(seed: u64) -> Rng {
+        Rng(seed)
+    }
+
+    pub fn next(&mut self) -> u64 {
+        self.0 = self.0.wrapping_add(0x9e3779b97f4a7c15);
+        let x = (self.0 ^ self.0 >> 30).wrapping_mul(0xbf58476d1ce4e5b9);
+        let x = (x ^ x >> 27).wrapping_mul(0x94d049bb133111eb);
+        x ^ x >> 31
+    }
+
+    /// A number below n.
+    pub fn below(&mut self, n: usize) -> usize {
+        (self.next() % n as u64) as usize
+    }
+
+    /// True once in n times.
+    pub fn once_in(&mut self, n: usize) -> bool {
+        self.below(n) == 0
+    }
+
+    pub fn pick<'a, T>(&mut self, from: &'a [T]) -> &'a T {
+        &from[self.below(from.len())]
+    }
+
+    pub fn bytes(&mut self, n: usize) -> Vec<u8> {
+        let mut bytes = vec![0; n];
+        self.fill(&mut bytes);
+        bytes
+    }
+
+    pub fn fill(&mut self, bytes: &mut [u8]) {
+        for chunk in bytes.chunks_mut(8) {
+            let word = self.next().to_le_bytes();
+            chunk.copy_from_slice(&word[..chunk.len()]);
+        }
+    }
+}
+
+/// The bits in which two arrays differ, lowest byte first, bit 0 first: a byte and a mask for each.
+pub fn due_bits(before: &[u8], after: &[u8]) -> Vec<(usize, u8)> {
+    let mut due = Vec::new();
+    for (at, (x, y)) in before.chunks(PAGE).zip(after.chunks(PAGE)).enumerate().filter(|(_, (x, y))| x != y) {
+        for i in (0..x.len()).filter(|&i| x[i] != y[i]) {
+            due.extend((0..8).map(|bit| 1 << bit).filter(|mask| (x[i] ^ y[i]) & mask != 0).map(|mask| (at * PAGE + i, mask)));
+        }
+    }
+    due
+}
+
+/// Bytes that are a state but for their ranges, as a cut may leave them: any bytes with a kind of work and a stride number that fits it.
+pub fn lost_state(rng: &mut Rng) -> Vec<u8> {
+    let mut state = rng.bytes(bokuhira::STATE);
+    state[275] = rng.below(4) as u8;
+    if state[275] % 3 == 0 {
+        state[276..278].fill(0);
+    }
+    state
+}
+
+/// A page's 528 bytes with these data and spare bytes, made whole.
+pub fn whole_page(data: &[u8], spare: &[u8; 14]) -> Vec<u8> {
+    let mut page = [data, spare].concat();
+    let zeros: u32 = page.iter().map(|b| b.count_zeros()).sum();
+    page.extend((zeros as u16).to_le_bytes());
+    page
+}
+
+/// The 14 bytes of a spare area before Zeros.
+pub fn spare(lpn: u16, count: u16, id: u32, version: u32, kind: u8, reserved: u8) -> [u8; 14] {
+    let mut s = [0; 14];
+    s[..2].copy_from_slice(&lpn.to_le_bytes());
+    s[2..4].copy_from_slice(&count.to_le_bytes());
+    s[4..8].copy_from_slice(&id.to_le_bytes());
+    s[8..12].copy_from_slice(&version.to_le_bytes());
+    s[12] = kind;
+    s[13] = reserved;
+    s
+}
+
+/// A store formatted by the proved library.
+pub fn formatted(g: Geometry) -> Store {
+    Store::formatted(g).expect("a format of a good geometry")
+}

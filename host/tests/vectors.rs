@@ -1,0 +1,334 @@
+//! Replays traces of document 01, call by call, through the proved library and through the plain layer: answer, operation, array, map,
+//! hold and state. The traces are those of ../shared/vectors where that is beside the repository, else the copies kept in traces/.
+//! traces/README.md says what a line means.
+mod common;
+
+use bokuhira::{Call, Geometry, Kind, Place, State, Store, Work, Zones, PAGE, STATE};
+use common::{due_bits, formatted, say, spare, whole_page, Layer, LAYERS};
+use std::collections::BTreeMap;
+use std::path::PathBuf;
+
+const KINDS: [(Kind, &str); 4] =
+    [(Kind::Idle, "idle"), (Kind::Format, "format"), (Kind::Checkpoint, "checkpoint"), (Kind::Reclaim, "reclaim")];
+
+/// 64-bit FNV-1a.
+fn fnv(bytes: impl IntoIterator<Item = u8>) -> u64 {
+    bytes.into_iter().fold(0xcbf29ce484222325, |h, b| (h ^ b as u64).wrapping_mul(0x100000001b3))
+}
+
+/// The array last seen and the digests of its pages, so that only pages that changed are read through again.
+#[derive(Default)]
+struct Digests {
+    array: Vec<u8>,
+    pages: Vec<u64>,
+}
+
+impl Digests {
+    fn of_array(&mut self, array: &[u8]) -> u64 {
+        if self.array.len() != array.len() {
+            self.array = Vec::new();
+            self.pages.resize(array.len() / PAGE, 0);
+        }
+        for (at, page) in array.chunks(PAGE).enumerate() {
+            if self.array.get(at * PAGE..(at + 1) * PAGE) != Some(page) {
+                self.pages[at] = fnv(page.iter().copied());
+            }
+        }
+        self.array = array.to_vec();
+        fnv(self.pages.iter().flat_map(|d| d.to_be_bytes()))
+    }
+
+    /// What a call left, as a trace says it.
+    fn left(&mut self, w: &Store) -> String {
+        let map = fnv(w.map.iter().flat_map(|x| x.to_le_bytes()));
+        let hold = fnv(w.hold.iter().copied());
+        format!("array={:016x} map={map:016x} hold={hold:016x} state {}", self.of_array(&w.array), state_words(&w.state))
+    }
+}
+
+/// The data of a seed, or `short`.
+fn data_of(word: &str) -> Vec<u8> {
+    let (seed, n) = if word == "short" { (0, 511) } else { (number(word), 512) };
+    (0..n).map(|i: u64| ((31 * seed + 7 * i + 13 * (i / 256)) % 256) as u8).collect()
+}
+
+fn number<T: TryFrom<u64>>(word: &str) -> T {
+    let n: u64 = word.parse().unwrap_or_else(|_| panic!("{word} is no number"));
+    T::try_from(n).unwrap_or_else(|_| panic!("{n} is too high"))
+}
+
+fn call_of(words: &[&str]) -> Call {
+    let g = || Geometry::new(number(words[1]), number(words[2]), number(words[3]));
+    match words[0] {
+        "format" => Call::Format(g()),
+        "recover" => Call::Recover(g()),
+        "begin" => Call::Begin(number(words[1])),
+        "write" => Call::Write { id: number(words[1]), lpn: number(words[2]), data: data_of(words[3]) },
+        "lone" => Call::Lone { lpn: number(words[1]), data: data_of(words[2]) },
+        "commit" => Call::Commit(number(words[1])),
+        "abort" => Call::Abort(number(words[1])),
+        "read" => Call::Read(number(words[1])),
+        "checkpoint" => Call::Checkpoint,
+        "reclaim" => Call::Reclaim,
+        other => panic!("no call {other}"),
+    }
+}
+
+fn list<T: ToString>(numbers: &[T]) -> String {
+    numbers.iter().map(|x| x.to_string()).collect::<Vec<_>>().join(",")
+}
+
+fn numbers<T: TryFrom<u64>>(words: &str) -> Vec<T> {
+    words.split(',').filter(|x| !x.is_empty()).map(number).collect()
+}
+
+/// A state as a trace writes it.
+fn state_words(bytes: &[u8]) -> String {
+    let Some(s) = State::decode(bytes) else { return "none".to_string() };
+    let place = |p: &Place| {
+        if p.is_free() {
+            return "-".to_string();
+        }
+        let programmed: Vec<String> = p.lpns.iter().zip(&p.ppns).map(|(lpn, ppn)| format!("{lpn}@{ppn}")).collect();
+        format!("{}[{}]{}", p.id, programmed.join(","), p.lpns.last().map_or(String::new(), |held| held.to_string()))
+    };
+    let places: Vec<String> = s.places.iter().map(place).collect();
+    let kind = KINDS.iter().find(|(k, _)| *k == s.work.kind).unwrap().1;
+    let Geometry { blocks, pages, logical } = s.geometry;
+    let Zones { available, unavailable, free, pointer } = s.zones;
+    format!(
+        "{blocks} {pages} {logical} available={} unavailable={} free={} pointer={pointer} version={} checkpoint={} front={}:{} work={kind}:{} places={}",
+        list(&available), list(&unavailable), list(&free), s.version, s.checkpoint, s.front, s.first, s.work.stride, places.join(" ")
+    )
+}
+
+/// The bytes of a state that a trace writes; what stands past a count is 0.
+fn state_of(words: &[&str]) -> Vec<u8> {
+    let fields: BTreeMap<&str, &str> = words[3..].iter().filter_map(|w| w.split_once('=')).collect();
+    let zones = Zones {
+        available: numbers(fields["available"]),
+        unavailable: numbers(fields["unavailable"]),
+        free: numbers(fields["free"]),
+        pointer: number(fields["pointer"]),
+    };
+    let (front, first) = fields["front"].split_once(':').unwrap();
+    let (kind, stride) = fields["work"].split_once(':').unwrap();
+    let kind = KINDS.iter().find(|(_, name)| *name == kind).unwrap().0;
+    let from = words.iter().position(|w| w.starts_with("places=")).unwrap();
+    let place = |word: &&str| {
+        let Some((id, rest)) = word.trim_start_matches("places=").split_once('[') else { return Place::default() };
+        let (programmed, held) = rest.split_once(']').unwrap();
+        let pairs: Vec<(&str, &str)> = programmed.split(',').filter_map(|x| x.split_once('@')).collect();
+        let lpns = pairs.iter().map(|(lpn, _)| *lpn).chain(Some(held).filter(|h| !h.is_empty())).map(number).collect();
+        Place { id: number(id), lpns, ppns: pairs.iter().map(|(_, ppn)| number(ppn)).collect() }
+    };
+    let state = State {
+        geometry: Geometry::new(number(words[0]), number(words[1]), number(words[2])),
+        zones,
+        version: number(fields["version"]),
+        checkpoint: number(fields["checkpoint"]),
+        front: number(front),
+        first: number(first),
+        work: Work { kind, stride: number(stride) },
+        places: words[from..from + 8].iter().map(place).collect(),
+    };
+    state.encode()
+}
+
+/// Of the bits in which two arrays differ, in order, those that HOW picks are turned.
+fn cut(before: &[u8], after: &[u8], how: &[&str]) -> Vec<u8> {
+    let due = due_bits(before, after);
+    let n = |i: usize| how[i].parse::<usize>().unwrap();
+    let mut array = before.to_vec();
+    for (at, (i, mask)) in due.iter().enumerate() {
+        let turned = match how[0] {
+            "none" => false,
+            "all" => true,
+            "every" => at % n(1) == n(2),
+            "first" => at < n(1),
+            "last" => at + n(1) >= due.len(),
+            "but" => at != n(1),
+            other => panic!("no cut {other}"),
+        };
+        if turned {
+            array[*i] ^= mask;
+        }
+    }
+    array
+}
+
+/// Whether the arrays differ as the operation that a trace names says.
+fn op_agrees(before: &[u8], after: &[u8], op: &str, pages: usize) -> bool {
+    let words: Vec<&str> = op.split_whitespace().collect();
+    let (range, inside): (_, fn(&[u8], &[u8]) -> bool) = match words[0] {
+        "-" => (0..0, |_, _| true),
+        "program" => {
+            let k: usize = number(words[1]);
+            (k * PAGE..(k + 1) * PAGE, |x, y| x.iter().all(|b| *b == 255) && x != y)
+        }
+        "erase" => {
+            let b: usize = number(words[1]);
+            (b * pages * PAGE..(b + 1) * pages * PAGE, |_, y| y.iter().all(|b| *b == 255))
+        }
+        other => panic!("no operation {other}"),
+    };
+    before[..range.start] == after[..range.start]
+        && before[range.end..] == after[range.end..]
+        && inside(&before[range.clone()], &after[range])
+}
+
+/// What a call line leaves, where that is not what the trace says.
+fn call_line(layer: Layer, digests: &mut Digests, w: &mut Store, words: &[&str], said: &str) -> Result<(), String> {
+    let before = w.clone();
+    let agree = |got: String| if got == said { Ok(()) } else { Err(got) };
+    if words[0] == "format-to-the-end" {
+        let Call::Format(g) = call_of(&[&["format"], &words[1..]].concat()) else { unreachable!() };
+        let strides = g.blocks as usize + g.map_pages() + 1;
+        let answers: Vec<u8> = (0..strides).map(|_| layer.call(w, &Call::Format(g))).collect();
+        if answers[..strides - 1].iter().any(|a| *a != 255) {
+            return Err(format!("format answered {answers:?}"));
+        }
+        return agree(format!("{} {}", answers[strides - 1], digests.left(w)));
+    }
+    let call = call_of(words);
+    let answer = layer.call(w, &call);
+    if let Call::Read(lpn) = call {
+        let part = layer.read(w, lpn);
+        if *w != before || part.err().unwrap_or(0) != answer {
+            return Err(format!("{answer}, then the part {part:?}"));
+        }
+        return agree(format!("{answer} {}", part.map_or("-".to_string(), |p| format!("{:016x}", fnv(p.iter().copied())))));
+    }
+    let (expected, rest) = said.split_once(' ').unwrap();
+    let (op, due) = rest.strip_prefix('(').unwrap().split_once(") ").unwrap();
+    if answer != number::<u8>(expected) {
+        return Err(format!("answer {answer}"));
+    }
+    let pages = State::decode(&w.state).map_or(0, |s| s.geometry.pages as usize);
+    if !op_agrees(&before.array, &w.array, op, pages) {
+        return Err(format!("another operation, {answer} {}", digests.left(w)));
+    }
+    if due == "same" {
+        return if *w == before { Ok(()) } else { Err(format!("not the same: {}", digests.left(w))) };
+    }
+    let found = digests.left(w);
+    if found != due {
+        return Err(format!("{answer} {found}"));
+    }
+    let state: Vec<&str> = due.split_once("state ").unwrap().1.split_whitespace().collect();
+    if w.state != state_of(&state) {
+        return Err("what stands past a count is not 0".to_string());
+    }
+    Ok(())
+}
+
+/// Runs a file; the calls and cuts that were compared. The other lines only make a world.
+fn replay(layer: Layer, name: &str, text: &str) -> usize {
+    let mut w = Store::blank(Geometry::new(8, 8, 16));
+    let mut kept: Option<Store> = None;
+    let mut digests = Digests::default();
+    let mut compared = 0;
+    for (at, line) in text.lines().enumerate() {
+        let line = line.split('#').next().unwrap().trim();
+        if line.is_empty() {
+            continue;
+        }
+        let (call, said) = line.split_once(" = ").map_or((line, ""), |(c, s)| (c, s.trim()));
+        let words: Vec<&str> = call.split_whitespace().collect();
+        let n = |i: usize| words[i].parse::<usize>().expect("a number");
+        // nothing is found of a line that only makes a world
+        let mut found = None;
+        match words[0] {
+            "blank" => w = Store::blank(Geometry::new(number(words[1]), number(words[2]), number(words[3]))),
+            "keep" => kept = Some(w.clone()),
+            "back" => w = kept.take().expect("a world that was kept"),
+            "state" => w.state = state_of(&words[1..]),
+            "map" => w.map[n(1)] = number(words[2]),
+            "byte" => w.array[n(1)] = number(words[2]),
+            "page" => {
+                let made =
+                    spare(number(words[3]), number(words[4]), number(words[5]), number(words[6]), number(words[7]), number(words[8]));
+                w.array[n(1) * PAGE..][..PAGE].copy_from_slice(&whole_page(&data_of(words[2]), &made));
+            }
+            "raw" => {
+                for i in 0..PAGE {
+                    w.array[n(1) * PAGE + i] = u8::from_str_radix(&words[2][2 * i..2 * i + 2], 16).unwrap();
+                }
+            }
+            "dark" => {
+                let value = |i: usize| words[i].split_once('=').unwrap().1;
+                w.map.fill(number(value(1)));
+                w.hold.fill(number(value(2)));
+                w.state = common::lost_state(&mut common::Rng::new(at as u64));
+            }
+            "cut" => {
+                let slash = words.iter().position(|x| *x == "/").unwrap();
+                let mut after = w.clone();
+                layer.call(&mut after, &call_of(&words[1..slash]));
+                w.array = cut(&w.array, &after.array, &words[slash + 1..]);
+                let got = format!("array={:016x}", digests.of_array(&w.array));
+                found = Some(if got == said { Ok(()) } else { Err(got) });
+            }
+            _ if kept.is_some() => found = Some(call_line(layer, &mut digests, &mut w.clone(), &words, said)),
+            _ => found = Some(call_line(layer, &mut digests, &mut w, &words, said)),
+        }
+        match found {
+            None => assert!(said.is_empty(), "{name}:{}: a line that compares nothing", at + 1),
+            Some(Ok(())) => compared += 1,
+            Some(Err(got)) => panic!("{layer:?}, {name}:{}: {call}\n  said {said}\n  got  {got}", at + 1),
+        }
+    }
+    compared
+}
+
+/// The folder of the traces.
+fn traces() -> PathBuf {
+    let host = PathBuf::from(env!("CARGO_MANIFEST_DIR"));
+    let shared = host.join("../../shared/vectors");
+    if shared.is_dir() {
+        return shared;
+    }
+    say("vectors: ../shared/vectors is not beside the repository; the copies in host/tests/traces are replayed");
+    host.join("tests/traces")
+}
+
+#[test]
+fn traces_replay() {
+    let mut files: Vec<PathBuf> = std::fs::read_dir(traces()).unwrap().map(|f| f.unwrap().path()).collect();
+    files.retain(|p| p.extension().is_some_and(|x| x == "txt"));
+    files.sort();
+    for layer in LAYERS {
+        let mut compared = 0;
+        for file in &files {
+            let name = file.file_name().unwrap().to_string_lossy();
+            let here = replay(layer, &name, &std::fs::read_to_string(file).unwrap());
+            assert!(here > 0, "{name} compares nothing");
+            compared += here;
+        }
+        say(&format!("vectors, {layer:?}: {compared} calls and cuts of {} files agree", files.len()));
+        assert!(compared > 0, "no trace was compared");
+    }
+}
+
+#[test]
+fn a_state_of_another_length_is_a_bad_frame() {
+    let g = Geometry::new(8, 8, 16);
+    let calls =
+        ["format 8 8 16", "recover 8 8 16", "begin 5", "write 5 0 1", "lone 0 1", "commit 5", "abort 5", "read 0", "checkpoint", "reclaim"];
+    for layer in LAYERS {
+        let mut live = formatted(g);
+        assert_eq!(layer.call(&mut live, &call_of(&["lone", "0", "1"])), 0);
+        assert_eq!(layer.read(&live, 0), Ok(&data_of("1")[..]));
+        for n in [0, 1, STATE - 1, STATE + 1] {
+            let mut w = live.clone();
+            w.state.resize(n, 0);
+            let before = w.clone();
+            for call in calls {
+                let words: Vec<&str> = call.split_whitespace().collect();
+                assert_eq!(layer.call(&mut w, &call_of(&words)), 1, "{layer:?}: {call} with {n} bytes");
+                assert!(w == before, "{layer:?}: {call} with {n} bytes changed something");
+            }
+            assert_eq!(layer.read(&w, 0), Err(1));
+        }
+    }
+}
