@@ -142,12 +142,16 @@ pub fn run(layer: Layer, g: Geometry, turns: u32, seed: u64, clock: f64) -> (Tal
 }
 
 /// A store in which so many blocks are listed: eight changes stay open, and one of their pages is put among the lone writes ever so often, so
-/// that every block that fills up stays unavailable. Also the number of whole pages that a recovery scans there.
+/// that every block that fills up stays unavailable.
 pub fn listed(g: Geometry, blocks: usize) -> Store {
     let mut s = Store::formatted(g).expect("a geometry in range");
     let mut random = Random::new(g.blocks as u64);
     let every = if g.pages > 8 { 16 } else { 4 };
-    (1..=8).for_each(|id| assert_eq!(s.begin(id), Answer::Done));
+    // a change's first page is held, not programmed
+    for id in 1..=8 {
+        assert_eq!(s.begin(id), Answer::Done);
+        assert_eq!(s.write(id, 0, &random.page()), Answer::Done);
+    }
     for turn in 0.. {
         let data = random.page();
         let lpn = random.below(g.logical as u64) as u16;
