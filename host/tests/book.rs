@@ -2,7 +2,7 @@
 //! book has it. Every call also goes to the plain layer, which must answer and leave the same.
 mod common;
 
-use bokuhira::{Call, Geometry, Store, DATA, PAGE, UNMAPPED};
+use bokuhira::{Call, Geometry, State, Store, DATA, PAGE, UNMAPPED};
 use common::{due_bits, kind, lost_state, say, Layer, Met, Rng, NAMES};
 use std::collections::BTreeMap;
 
@@ -198,7 +198,9 @@ impl Run {
         assert_eq!(Layer::Plain.read(&self.plain, lpn), due, "logical page {lpn}, plain layer");
     }
 
+    /// Every logical page reads so; and the state has zeros past its counts.
     fn all_read(&self) {
+        assert_eq!(State::decode(&self.proved.state).expect("a state").encode(), self.proved.state);
         (0..self.g.logical).for_each(|lpn| self.reads(lpn));
     }
 
