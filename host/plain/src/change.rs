@@ -3,7 +3,7 @@ use crate::flash::{next_page, pages, pages_mut, Geometry};
 use crate::frame;
 use crate::page::{id_of, is_whole, program, Page, Spare};
 use crate::state::State;
-use crate::{ensure, Done, Outcome, Refusal, DATA, LAST, LONGEST, PAGE, PLACES, STATE, UNMAPPED};
+use crate::{ensure, Answer, Outcome, Refusal, DATA, LAST, LONGEST, PAGE, PLACES, STATE, UNMAPPED};
 use std::ops::Deref;
 
 type Bytes = [u8; STATE];
@@ -39,7 +39,7 @@ pub fn begin(array: &[u8], map: &[u16], hold: &[u8], mut state: State<&mut Bytes
     ensure(!live, Refusal::IdentifierLive)?;
     let place = (0..PLACES).find(|&i| state.place(i).is_free()).ok_or(Refusal::PlacesFull)?;
     state.set_place(place, id);
-    Ok(Done::All)
+    Ok(Answer::Done)
 }
 
 pub fn write(array: &mut [u8], map: &[u16], hold: &mut [u8], mut state: State<&mut Bytes>, id: u32, lpn: u16, data: &[u8]) -> Outcome {
@@ -59,7 +59,7 @@ pub fn write(array: &mut [u8], map: &[u16], hold: &mut [u8], mut state: State<&m
     }
     held.copy_from_slice(data);
     state.add_page(i, lpn, programmed);
-    Ok(Done::All)
+    Ok(Answer::Done)
 }
 
 pub fn lone(array: &mut [u8], map: &mut [u16], hold: &[u8], mut state: State<&mut Bytes>, lpn: u16, data: &[u8]) -> Outcome {
@@ -72,7 +72,7 @@ pub fn lone(array: &mut [u8], map: &mut [u16], hold: &[u8], mut state: State<&mu
     program(&mut pages[k], data, Spare::data(lpn, 1, 0, version));
     map[usize::from(lpn)] = k as u16;
     state.set_version(version);
-    Ok(Done::All)
+    Ok(Answer::Done)
 }
 
 pub fn commit(array: &mut [u8], map: &mut [u16], hold: &[u8], mut state: State<&mut Bytes>, id: u32) -> Outcome {
@@ -90,14 +90,14 @@ pub fn commit(array: &mut [u8], map: &mut [u16], hold: &[u8], mut state: State<&
         state.set_version(version);
     }
     state.set_place(i, 0);
-    Ok(Done::All)
+    Ok(Answer::Done)
 }
 
 pub fn abort(array: &[u8], map: &[u16], hold: &[u8], mut state: State<&mut Bytes>, id: u32) -> Outcome {
     idle(array, map, hold, &state)?;
     let place = active(&state, id)?;
     state.set_place(place, 0);
-    Ok(Done::All)
+    Ok(Answer::Done)
 }
 
 pub fn read(array: &[u8], map: &[u16], hold: &[u8], state: State<&Bytes>, lpn: u16) -> Result<usize, Refusal> {

@@ -1,10 +1,10 @@
 //! Format: every block erased, then a first checkpoint.
+use crate::checkpoint::{program_map, program_zones};
 use crate::flash::{erase, pages, pages_mut, Geometry};
 use crate::frame;
 use crate::state::{State, Work};
-use crate::strides::{program_map, program_zones};
 use crate::zones::{Blocks, NewZones};
-use crate::{ensure, Done, Outcome, Refusal, STATE, UNMAPPED};
+use crate::{ensure, Answer, Outcome, Refusal, STATE, UNMAPPED};
 
 pub fn format(array: &mut [u8], map: &mut [u16], hold: &[u8], mut state: State<&mut [u8; STATE]>, g: Geometry) -> Outcome {
     frame::lengths(g, array, map, hold)?;
@@ -31,7 +31,7 @@ pub fn format(array: &mut [u8], map: &mut [u16], hold: &[u8], mut state: State<&
         state.set_zones(&new.zones());
         state.set_checkpoint(1);
         state.set_work(Work::Idle);
-        return Ok(Done::All);
+        return Ok(Answer::Done);
     }
-    Ok(Done::More)
+    Ok(Answer::More)
 }

@@ -4,6 +4,7 @@
 //! else the number of a refusal, which leaves every buffer as it was. Any bytes of any length may be lent.
 
 mod change;
+mod checkpoint;
 mod flash;
 mod format;
 mod frame;
@@ -11,7 +12,7 @@ mod page;
 mod reclaim;
 mod recover;
 mod state;
-mod strides;
+
 mod zones;
 
 use state::State;
@@ -55,16 +56,16 @@ enum Refusal {
 
 /// What a call that is carried out answers.
 #[derive(Clone, Copy, PartialEq, Eq, Debug)]
-enum Done {
-    All = 0,
+enum Answer {
+    Done = 0,
     More = 255,
 }
 
-type Outcome = Result<Done, Refusal>;
+type Outcome = Result<Answer, Refusal>;
 
 fn number(outcome: Outcome) -> u8 {
     match outcome {
-        Ok(done) => done as u8,
+        Ok(answer) => answer as u8,
         Err(refusal) => refusal as u8,
     }
 }
@@ -123,7 +124,7 @@ pub fn read(array: &[u8], map: &[u16], hold: &[u8], state: &[u8], lpn: u16) -> (
 
 /// One stride of a checkpoint.
 pub fn checkpoint(array: &mut [u8], map: &[u16], hold: &[u8], state: &mut [u8]) -> u8 {
-    number(State::edit(state).and_then(|s| strides::checkpoint(array, map, hold, s)))
+    number(State::edit(state).and_then(|s| checkpoint::checkpoint(array, map, hold, s)))
 }
 
 /// One stride of a reclaim.

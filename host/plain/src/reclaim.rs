@@ -4,7 +4,7 @@ use crate::frame;
 use crate::page::{seal, Spare};
 use crate::state::{State, Work};
 use crate::zones::NewZones;
-use crate::{ensure, Done, Outcome, Refusal, DATA, LAST, PAGE, STATE, UNMAPPED};
+use crate::{ensure, Answer, Outcome, Refusal, DATA, LAST, PAGE, STATE, UNMAPPED};
 
 pub fn reclaim(array: &mut [u8], map: &mut [u16], hold: &[u8], mut state: State<&mut [u8; STATE]>) -> Outcome {
     let g = frame::check(array, map, hold, &state)?;
@@ -26,7 +26,7 @@ pub fn reclaim(array: &mut [u8], map: &mut [u16], hold: &[u8], mut state: State<
         erase(&mut pages_mut(array)[g.block(picked)]);
         state.set_zones(&new.zones());
         state.set_work(Work::Idle);
-        return Ok(Done::All);
+        return Ok(Answer::Done);
     }
 
     ensure(state.version() <= LAST - u32::from(due), Refusal::VersionsSpent)?;
@@ -40,5 +40,5 @@ pub fn reclaim(array: &mut [u8], map: &mut [u16], hold: &[u8], mut state: State<
     map[lpn] = to as u16;
     state.set_version(version);
     state.set_work(Work::Reclaim);
-    Ok(Done::More)
+    Ok(Answer::More)
 }

@@ -1,11 +1,11 @@
 //! Recovery: the newest complete checkpoint, and what was committed after it.
+use crate::checkpoint::{spare, ENTRIES};
 use crate::flash::{pages, Geometry};
 use crate::frame;
 use crate::page::{is_whole, Page, Spare};
 use crate::state::State;
-use crate::strides::{spare, ENTRIES};
 use crate::zones::Zones;
-use crate::{ensure, Done, Outcome, Refusal, DATA, LAST, STATE, UNMAPPED};
+use crate::{ensure, Answer, Outcome, Refusal, DATA, LAST, STATE, UNMAPPED};
 use std::ops::Range;
 
 pub fn recover(array: &[u8], map: &mut [u16], hold: &[u8], mut state: State<&mut [u8; STATE]>, g: Geometry) -> Outcome {
@@ -28,7 +28,7 @@ pub fn recover(array: &[u8], map: &mut [u16], hold: &[u8], mut state: State<&mut
     state.set_version(log.marks.last().map_or(floor, |m| m.version.max(floor)));
     state.set_checkpoint(number);
     state.set_front(at / g.pages, 0);
-    Ok(Done::All)
+    Ok(Answer::Done)
 }
 
 /// Number and first page of the complete checkpoint of highest number, the first in page order if two share it.

@@ -4,7 +4,7 @@ use crate::frame;
 use crate::page::{seal, Page, Spare};
 use crate::state::{State, Work};
 use crate::zones::{slide, Zones};
-use crate::{ensure, Done, Outcome, Refusal, DATA, LAST, STATE};
+use crate::{ensure, Answer, Outcome, Refusal, DATA, LAST, STATE};
 
 /// The map entries on a map page.
 pub const ENTRIES: usize = 256;
@@ -46,7 +46,7 @@ pub fn checkpoint(array: &mut [u8], map: &[u16], hold: &[u8], mut state: State<&
                 erase(&mut pages[g.block(1 - front)]);
                 state.set_front(1 - front, 0);
                 state.set_work(Work::Checkpoint(0));
-                return Ok(Done::More);
+                return Ok(Answer::More);
             }
             (g.pages - clean, 0)
         }
@@ -56,7 +56,7 @@ pub fn checkpoint(array: &mut [u8], map: &[u16], hold: &[u8], mut state: State<&
         program_map(&mut pages[at], g, stride, map, number);
         state.set_front(front, first);
         state.set_work(Work::Checkpoint(stride + 1));
-        return Ok(Done::More);
+        return Ok(Answer::More);
     }
     let zones = state.zones().ok_or(Refusal::BadFrame)?;
     let new = slide(pages, g, zones, state.places().map(|p| p.id()).filter(|id| *id != 0));
@@ -65,5 +65,5 @@ pub fn checkpoint(array: &mut [u8], map: &[u16], hold: &[u8], mut state: State<&
     state.set_checkpoint(number);
     state.set_front(front, 0);
     state.set_work(Work::Idle);
-    Ok(Done::All)
+    Ok(Answer::Done)
 }

@@ -1,0 +1,179 @@
+//! Cuts bit by bit: the last program of a commit and of a lone write with every single due bit left out in turn, and every prefix of an
+//! erase. After each, both layers recover with any map, hold and state, and every logical page is read.
+mod common;
+
+use bokuhira::{Answer, Call, Geometry, Store, DATA};
+use common::{due_bits, lost_state, say, Layer, Rng, LAYERS};
+
+const SIZE: Geometry = Geometry { blocks: 8, pages: 8, logical: 16 };
+
+/// The settings: what each logical page holds, if it was ever written.
+type Settings = Vec<Option<Vec<u8>>>;
+
+/// A device in use, with its settings.
+struct Device {
+    store: Store,
+    settings: Settings,
+    rng: Rng,
+}
+
+impl Device {
+    /// Formatted, and with some pages written.
+    fn new(seed: u64, lone_writes: usize) -> Device {
+        let store = Store::formatted(SIZE).expect("a good geometry");
+        let mut device = Device { store, settings: vec![None; SIZE.logical as usize], rng: Rng::new(seed) };
+        for i in 0..lone_writes {
+            let data = device.rng.bytes(DATA);
+            device.lone(i as u16 % 10, &data);
+        }
+        device
+    }
+
+    fn lone(&mut self, lpn: u16, data: &[u8]) {
+        assert_eq!(self.store.lone(lpn, data), Answer::Done);
+        self.settings[lpn as usize] = Some(data.to_vec());
+    }
+
+    /// Every logical page reads as the settings have it, once an array with any map, hold and state was recovered.
+    fn recovers(&mut self, array: &[u8], settings: &Settings, what: &str) {
+        for layer in LAYERS {
+            self.store.array.copy_from_slice(array);
+            self.store.state = lost_state(&mut self.rng);
+            self.rng.fill(&mut self.store.hold);
+            self.store.map.iter_mut().for_each(|e| *e = self.rng.next() as u16);
+            assert_eq!(layer.call(&mut self.store, &Call::Recover(SIZE)), 0, "{layer:?}, {what}");
+            for (lpn, setting) in settings.iter().enumerate() {
+                let due = setting.as_deref().ok_or(14);
+                assert_eq!(layer.read(&self.store, lpn as u16), due, "{layer:?}, {what}: logical page {lpn}");
+            }
+        }
+    }
+
+    /// The array before a call and its due bits, on both layers.
+    fn due(&self, call: &Call) -> (Vec<u8>, Vec<(usize, u8)>) {
+        let after = LAYERS.map(|layer| {
+            let mut after = self.store.clone();
+            assert_eq!(layer.call(&mut after, call), 0, "{layer:?}, {call:?}");
+            after
+        });
+        assert!(after[0] == after[1], "the layers differ after {call:?}");
+        (self.store.array.clone(), due_bits(&self.store.array, &after[0].array))
+    }
+
+    /// The call's page with every due bit but one: the old settings. With all: the new.
+    fn each_bit_left_out(mut self, call: &Call, new: Settings) -> usize {
+        let (before, due) = self.due(call);
+        let mut array = before.clone();
+        due.iter().for_each(|(at, mask)| array[*at] ^= mask);
+        self.recovers(&array, &new, "all due bits turned");
+        let old = self.settings.clone();
+        for (n, (at, mask)) in due.iter().enumerate() {
+            array[*at] ^= mask;
+            self.recovers(&array, &old, &format!("due bit {n} of {} left out", due.len()));
+            array[*at] ^= mask;
+        }
+        self.recovers(&before, &old, "no due bit turned");
+        due.len()
+    }
+
+    /// Every prefix of the due bits of an erase, from none to all: the settings are as they were. Now and then the same command is
+    /// then run to its end, and they still are.
+    fn each_prefix(mut self, call: &Call) -> usize {
+        let (mut array, due) = self.due_of_erase(call);
+        let settings = self.settings.clone();
+        for n in 0..=due.len() {
+            self.recovers(&array, &settings, &format!("the first {n} of {} bits erased", due.len()));
+            if n % 1_000 == 0 || n == due.len() {
+                while more_strides(&mut self.store, call) {}
+                let array = self.store.array.clone();
+                self.recovers(&array, &settings, &format!("{call:?} done after {n} bits erased"));
+            }
+            if let Some((at, mask)) = due.get(n) {
+                array[*at] ^= mask;
+            }
+        }
+        due.len()
+    }
+
+    /// Strides until the next one erases; then the array and the bits that the erase is to turn to ones.
+    fn due_of_erase(&mut self, call: &Call) -> (Vec<u8>, Vec<(usize, u8)>) {
+        for _ in 0..100 {
+            let mut after = self.store.clone();
+            assert!([0, 255].contains(&Layer::Proved.call(&mut after, call)));
+            let due = due_bits(&self.store.array, &after.array);
+            if due.iter().any(|(at, mask)| self.store.array[*at] & mask == 0) {
+                return (self.store.array.clone(), due);
+            }
+            self.store = after;
+        }
+        panic!("{call:?} never erases");
+    }
+}
+
+/// One stride; whether more are to follow.
+fn more_strides(store: &mut Store, call: &Call) -> bool {
+    let answer = Layer::Proved.call(store, call);
+    assert!(answer == 0 || answer == 255, "{call:?} answers {answer}");
+    answer == 255
+}
+
+/// Pages of any bytes, and one of zeros, of which every bit is due.
+fn last_pages(rng: &mut Rng) -> [Vec<u8>; 2] {
+    [rng.bytes(DATA), vec![0; DATA]]
+}
+
+#[test]
+fn a_commit_without_any_one_bit_is_no_commit() {
+    for (seed, last) in (1..).zip(last_pages(&mut Rng::new(10))) {
+        let mut device = Device::new(seed, 6);
+        let mut new = device.settings.clone();
+        assert_eq!(device.store.begin(77), Answer::Done);
+        let writes = [(2, device.rng.bytes(DATA)), (12, device.rng.bytes(DATA)), (4, last)];
+        for (lpn, data) in writes {
+            assert_eq!(device.store.write(77, lpn, &data), Answer::Done);
+            new[lpn as usize] = Some(data);
+        }
+        let bits = device.each_bit_left_out(&Call::Commit(77), new);
+        say(&format!("bits: a commit with each of {bits} due bits left out"));
+        assert!(bits > 1_000);
+    }
+}
+
+#[test]
+fn a_lone_write_without_any_one_bit_is_no_write() {
+    for (seed, data) in (3..).zip(last_pages(&mut Rng::new(30))) {
+        let device = Device::new(seed, 6);
+        let mut new = device.settings.clone();
+        new[3] = Some(data.clone());
+        let bits = device.each_bit_left_out(&Call::Lone { lpn: 3, data }, new);
+        say(&format!("bits: a lone write with each of {bits} due bits left out"));
+        assert!(bits > 1_000);
+    }
+}
+
+#[test]
+fn every_prefix_of_a_reclaims_erase_keeps_the_settings() {
+    // fills two blocks; after a checkpoint they are checkpointed, and pages written again leave one of them with few mapped pages
+    let mut device = Device::new(5, 16);
+    while more_strides(&mut device.store, &Call::Checkpoint) {}
+    for lpn in [0, 1, 8] {
+        let data = device.rng.bytes(DATA);
+        device.lone(lpn, &data);
+    }
+    assert_eq!(device.store.reclaim(), Answer::More, "a page is copied before the erase");
+    let bits = device.each_prefix(&Call::Reclaim);
+    say(&format!("bits: every prefix of the {bits} bits of a reclaim's erase"));
+    assert!(bits > 10_000);
+}
+
+#[test]
+fn every_prefix_of_a_checkpoints_erase_keeps_the_settings() {
+    // L = 16 and P = 8: two pages a checkpoint, so the ninth in all erases a front block that holds four
+    let mut device = Device::new(6, 6);
+    for _ in 0..7 {
+        while more_strides(&mut device.store, &Call::Checkpoint) {}
+    }
+    let bits = device.each_prefix(&Call::Checkpoint);
+    say(&format!("bits: every prefix of the {bits} bits of a checkpoint's erase"));
+    assert!(bits > 10_000);
+}

@@ -1,0 +1,498 @@
+//! Random sequences of document 01 with cuts at random bits, against its book: after every cut a recovery gives each logical page as the
+//! book has it. Every call also goes to the plain layer, which must answer and leave the same.
+mod common;
+
+use bokuhira::{Call, Geometry, State, Store, DATA, PAGE, UNMAPPED};
+use common::{due_bits, kind, lost_state, say, Layer, Met, Rng, NAMES};
+use std::collections::BTreeMap;
+
+/// The book: L pages, at first never written, and the open changes, each with its writes in order. It is fed calls, answers and cuts alone.
+struct Book {
+    pages: Vec<Option<Vec<u8>>>,
+    open: BTreeMap<u32, Vec<(u16, Vec<u8>)>>,
+}
+
+impl Book {
+    fn new(g: Geometry) -> Book {
+        Book { pages: vec![None; g.logical as usize], open: BTreeMap::new() }
+    }
+
+    fn enter(&mut self, lpn: u16, data: &[u8]) {
+        self.pages[lpn as usize] = Some(data.to_vec());
+    }
+
+    /// What a commit or a lone write enters, at its end or in a cut.
+    fn enter_writes(&mut self, call: &Call) {
+        match call {
+            Call::Commit(id) => self.open.remove(id).into_iter().flatten().for_each(|(lpn, data)| self.enter(lpn, &data)),
+            Call::Lone { lpn, data } => self.enter(*lpn, data),
+            _ => (),
+        }
+    }
+
+    fn answered(&mut self, call: &Call, answer: u8) {
+        if answer != 0 {
+            return;
+        }
+        match call {
+            Call::Begin(id) => drop(self.open.insert(*id, Vec::new())),
+            Call::Write { id, lpn, data } => self.open.get_mut(id).expect("an open change").push((*lpn, data.clone())),
+            Call::Abort(id) => drop(self.open.remove(id)),
+            Call::Recover(_) => self.open.clear(),
+            _ => self.enter_writes(call),
+        }
+    }
+
+    /// A cut, in a call or between two: whether the call programs a page, and whether all due bits were turned.
+    fn cut(&mut self, call: Option<&Call>, programs: bool, all_turned: bool) {
+        if let Some(call) = call.filter(|_| programs && all_turned) {
+            self.enter_writes(call);
+        }
+        self.open.clear();
+    }
+}
+
+/// Which calls are drawn, and how often one is cut.
+struct Mood {
+    weights: [usize; 9],
+    cut_once_in: usize,
+    /// Writes go to one change, until it is full.
+    one_change: bool,
+}
+
+//                 begin write lone commit abort read checkpoint reclaim recover
+const MIXED: [usize; 9] = [10, 30, 15, 10, 3, 6, 6, 8, 1];
+const SHORT: [usize; 9] = [18, 40, 4, 30, 2, 3, 8, 8, 0];
+const LONE: [usize; 9] = [2, 3, 60, 2, 1, 4, 9, 9, 0];
+const LONG: [usize; 9] = [3, 120, 2, 1, 0, 2, 14, 6, 0];
+const MANY: [usize; 9] = [60, 30, 2, 4, 4, 2, 4, 4, 0];
+const TIDY: [usize; 9] = [1, 3, 8, 1, 1, 2, 10, 50, 0];
+const NO_CHECKPOINT: [usize; 9] = [2, 6, 30, 2, 1, 2, 1, 50, 0];
+const MOODS: [[usize; 9]; 8] = [MIXED, SHORT, SHORT, LONE, LONG, MANY, TIDY, NO_CHECKPOINT];
+
+/// The cuts made: between calls, and in each command's programs and erases, by whether no, some or all due bits were turned.
+#[derive(Default)]
+struct Cuts {
+    between: usize,
+    without_operation: usize,
+    in_programs: [[usize; 3]; 10],
+    in_erases: [[usize; 3]; 10],
+}
+
+impl Cuts {
+    fn in_operations(&self) -> impl Iterator<Item = &usize> {
+        self.in_programs.iter().chain(&self.in_erases).flatten()
+    }
+
+    fn all(&self) -> usize {
+        self.between + self.without_operation + self.in_operations().sum::<usize>()
+    }
+
+    fn add(&mut self, other: &Cuts) {
+        self.between += other.between;
+        self.without_operation += other.without_operation;
+        let here = self.in_programs.iter_mut().chain(&mut self.in_erases).flatten();
+        here.zip(other.in_operations()).for_each(|(a, b)| *a += b);
+    }
+
+    /// A line for each kind of operation after a format; each must have been cut with no, some and all due bits turned.
+    fn say(&self) {
+        say(&format!("  {} between calls, {} in calls without an operation", self.between, self.without_operation));
+        for (what, counts, commands) in [
+            ("programs", &self.in_programs, &["write", "lone", "commit", "checkpoint", "reclaim"][..]),
+            ("erases", &self.in_erases, &["checkpoint", "reclaim"][..]),
+        ] {
+            for command in commands {
+                let [none, some, all] = counts[NAMES.iter().position(|n| n == command).unwrap()];
+                say(&format!("  in {what} of {command}: {none} with no due bit turned, {some} with some, {all} with all"));
+                assert!(none > 0 && some > 0 && all > 0, "{what} of {command} were not cut in every way");
+            }
+        }
+    }
+}
+
+/// A sequence under way on both layers.
+struct Run {
+    g: Geometry,
+    rng: Rng,
+    proved: Store,
+    plain: Store,
+    book: Book,
+    met: Met,
+    cuts: Cuts,
+    /// A number that no identifier had yet.
+    fresh: u32,
+    /// The command of several strides under way.
+    under_way: Option<Call>,
+}
+
+impl Run {
+    /// Both layers on one array of any bytes, with any map, hold and state.
+    fn new(g: Geometry, seed: u64) -> Run {
+        let mut rng = Rng::new(seed);
+        let mut proved = Store::blank(g);
+        rng.fill(&mut proved.array);
+        proved.state = lost_state(&mut rng);
+        let plain = proved.clone();
+        Run { g, rng, proved, plain, book: Book::new(g), met: Met::new(), cuts: Cuts::default(), fresh: 1, under_way: None }
+    }
+
+    /// A call on both layers: the same answer, the same buffers, one operation at most, and nothing at all where it is refused.
+    fn both(&mut self, call: &Call) -> u8 {
+        let before = self.proved.clone();
+        let answer = Layer::Proved.call(&mut self.proved, call);
+        assert_eq!(Layer::Plain.call(&mut self.plain, call), answer, "the plain layer answers otherwise to {call:?}");
+        assert!(self.proved == self.plain, "the layers differ after {call:?}, {answer}");
+        if answer != 0 && answer != 255 {
+            assert!(self.proved == before, "{call:?} was refused with {answer} and changed something");
+        } else {
+            self.one_operation(&before.array, &self.proved.array);
+        }
+        answer
+    }
+
+    /// Nothing changed, or ones of one page became zeros, or one block was erased.
+    fn one_operation(&self, before: &[u8], after: &[u8]) {
+        let changed: Vec<usize> = (0..before.len() / PAGE).filter(|&k| before[k * PAGE..][..PAGE] != after[k * PAGE..][..PAGE]).collect();
+        let programmed = changed.len() == 1 && (0..PAGE).all(|i| !before[changed[0] * PAGE + i] & after[changed[0] * PAGE + i] == 0);
+        let pages = self.g.pages as usize;
+        let erased = !changed.is_empty() && {
+            let b = changed[0] / pages;
+            changed.iter().all(|k| k / pages == b) && after[b * pages * PAGE..][..pages * PAGE].iter().all(|x| *x == 255)
+        };
+        assert!(changed.is_empty() || programmed || erased, "more than one operation: pages {changed:?}");
+    }
+
+    /// One call of the sequence.
+    fn call(&mut self, call: &Call) -> u8 {
+        let answer = self.both(call);
+        self.met.note(call, answer);
+        self.book.answered(call, answer);
+        if self.under_way.as_ref() == Some(call) {
+            assert!(answer == 0 || answer == 255, "a later stride of {call:?} answers {answer}");
+        }
+        match call {
+            Call::Recover(_) => {
+                assert_eq!(answer, 0, "a recover in a sequence");
+                self.under_way = None;
+            }
+            Call::Checkpoint | Call::Reclaim | Call::Format(_) => match answer {
+                255 => self.under_way = Some(call.clone()),
+                0 => self.under_way = None,
+                _ => (),
+            },
+            Call::Read(lpn) => self.reads(*lpn),
+            _ => (),
+        }
+        answer
+    }
+
+    /// One logical page reads as the book has it, on both layers.
+    fn reads(&self, lpn: u16) {
+        let due = match self.book.pages.get(lpn as usize) {
+            None => Err(5),
+            Some(None) => Err(14),
+            Some(Some(data)) => Ok(&data[..]),
+        };
+        assert_eq!(Layer::Proved.read(&self.proved, lpn), due, "logical page {lpn}");
+        assert_eq!(Layer::Plain.read(&self.plain, lpn), due, "logical page {lpn}, plain layer");
+    }
+
+    /// Every logical page reads so; and the state has zeros past its counts.
+    fn all_read(&self) {
+        assert_eq!(State::decode(&self.proved.state).expect("a state").encode(), self.proved.state);
+        (0..self.g.logical).for_each(|lpn| self.reads(lpn));
+    }
+
+    /// Format from its first stride to its last, with a cut now and then, after which it starts anew.
+    fn format(&mut self) {
+        self.book = Book::new(self.g);
+        let call = Call::Format(self.g);
+        let mut first = true;
+        loop {
+            if self.rng.once_in(20) {
+                self.cut_in(Some(&call));
+                // a format of this geometry is not under way: the next call is a first stride
+                self.proved.state[275..278].fill(0);
+                self.plain.state[275..278].fill(0);
+                first = true;
+            }
+            let answer = self.call(&call);
+            assert!(answer == 0 || answer == 255);
+            assert!(!first || self.proved.map.iter().all(|e| *e == UNMAPPED));
+            first = false;
+            self.reads(0);
+            if answer == 0 {
+                return self.all_read();
+            }
+        }
+    }
+
+    /// The array as a cut in a call leaves it, and the book with it; map, hold and state are lost.
+    fn cut_in(&mut self, call: Option<&Call>) {
+        let (mut programs, mut all_turned) = (false, false);
+        if let Some(call) = call {
+            let before = (self.proved.clone(), self.plain.clone());
+            self.both(call);
+            let due = due_bits(&before.0.array, &self.proved.array);
+            (self.proved, self.plain) = before;
+            programs = due.first().is_some_and(|(at, mask)| self.proved.array[*at] & mask != 0);
+            let turned = self.turned(due.len());
+            all_turned = turned.iter().all(|t| *t);
+            if due.is_empty() {
+                self.cuts.without_operation += 1;
+            } else {
+                let cuts = if programs { &mut self.cuts.in_programs } else { &mut self.cuts.in_erases };
+                cuts[kind(call)][if all_turned { 2 } else { turned.contains(&true).into() }] += 1;
+            }
+            for ((at, mask), _) in due.iter().zip(turned).filter(|(_, turned)| *turned) {
+                self.proved.array[*at] ^= mask;
+            }
+        } else {
+            self.cuts.between += 1;
+        }
+        self.book.cut(call, programs, all_turned);
+        self.under_way = None;
+        self.lose();
+    }
+
+    fn operates(&self, call: &Call) -> bool {
+        let mut after = self.proved.clone();
+        Layer::Proved.call(&mut after, call);
+        after.array != self.proved.array
+    }
+
+    /// Which of n due bits a cut lets be turned.
+    fn turned(&mut self, n: usize) -> Vec<bool> {
+        if n == 0 {
+            return Vec::new();
+        }
+        let at = self.rng.below(n);
+        match self.rng.below(8) {
+            0 => vec![false; n],
+            1 | 2 => vec![true; n],
+            3 => (0..n).map(|i| i != at).collect(),
+            4 => (0..n).map(|i| i == at).collect(),
+            5 => (0..n).map(|i| i < at).collect(),
+            6 => (0..n).map(|i| i > at).collect(),
+            _ => {
+                let density = 1 + self.rng.below(255) as u64;
+                (0..n).map(|_| self.rng.next() % 256 < density).collect()
+            }
+        }
+    }
+
+    /// Map, hold and state are anything now.
+    fn lose(&mut self) {
+        self.proved.state = lost_state(&mut self.rng);
+        self.rng.fill(&mut self.proved.hold);
+        self.proved.map.iter_mut().for_each(|e| *e = self.rng.next() as u16);
+        self.plain = self.proved.clone();
+    }
+
+    /// After a cut: recovers, some of them cut too, and refused formats, until one recover is done. Then the book holds, and recovering
+    /// again changes nothing.
+    fn recover(&mut self) {
+        let call = Call::Recover(self.g);
+        while self.rng.once_in(4) {
+            match self.rng.below(3) {
+                0 => self.cut_in(None),
+                1 => self.cut_in(Some(&call)),
+                _ => self.refused_format(),
+            }
+        }
+        self.call(&call);
+        self.all_read();
+        let before = self.proved.clone();
+        self.call(&call);
+        assert!(self.proved == before, "recovering again changes something");
+        // and so it is with any other map, hold and state
+        let hold = self.proved.hold.clone();
+        self.lose();
+        self.proved.hold = hold.clone();
+        self.plain.hold = hold;
+        self.call(&call);
+        assert!(self.proved == before, "recovering from another map and state gives something else");
+    }
+
+    fn refused_format(&mut self) {
+        let Geometry { blocks, pages, logical } = self.g;
+        let wrong = [
+            Geometry::new(7, pages, 1),
+            Geometry::new(blocks, pages, logical + 1),
+            Geometry::new(blocks + 1, pages, logical),
+            Geometry::new(blocks, 65, logical),
+        ];
+        let call = Call::Format(*self.rng.pick(&wrong));
+        assert_eq!(self.call(&call), 1);
+    }
+
+    fn draw(&mut self, mood: &Mood) -> Call {
+        if let Some(call) = self.under_way.clone().filter(|_| !self.rng.once_in(8)) {
+            return call;
+        }
+        let mut at = self.rng.below(mood.weights.iter().sum());
+        let drawn = mood
+            .weights
+            .iter()
+            .position(|w| {
+                if at < *w {
+                    true
+                } else {
+                    at -= w;
+                    false
+                }
+            })
+            .unwrap();
+        match drawn {
+            1 | 3 | 4 if self.book.open.is_empty() && !self.rng.once_in(6) => Call::Begin(self.new_id()),
+            0 => Call::Begin(self.new_id()),
+            1 => Call::Write { id: self.open_id(mood), lpn: self.lpn(), data: self.data() },
+            2 => Call::Lone { lpn: self.lpn(), data: self.data() },
+            3 => Call::Commit(self.open_id(mood)),
+            4 => Call::Abort(self.open_id(mood)),
+            5 => Call::Read(self.lpn()),
+            6 => Call::Checkpoint,
+            7 => Call::Reclaim,
+            _ => Call::Recover(self.g),
+        }
+    }
+
+    /// Most often one that was never used; else one used before, or none at all.
+    fn new_id(&mut self) -> u32 {
+        match self.rng.below(20) {
+            0 => *self.rng.pick(&[0, u32::MAX, u32::MAX - 1]),
+            1..=3 => self.fresh.saturating_sub(self.rng.below(12) as u32).max(1),
+            _ => {
+                self.fresh += 1;
+                self.fresh
+            }
+        }
+    }
+
+    fn open_id(&mut self, mood: &Mood) -> u32 {
+        let open: Vec<u32> = self.book.open.keys().copied().collect();
+        if open.is_empty() || self.rng.once_in(40) {
+            self.new_id()
+        } else if mood.one_change {
+            open[0]
+        } else {
+            *self.rng.pick(&open)
+        }
+    }
+
+    /// A few logical pages are written often.
+    fn lpn(&mut self) -> u16 {
+        let logical = self.g.logical as usize;
+        let lpn = match self.rng.below(30) {
+            0 => logical + self.rng.below(3),
+            1..=15 => self.rng.below(logical.div_ceil(4)),
+            _ => self.rng.below(logical),
+        };
+        lpn as u16
+    }
+
+    /// Data with few zeros, few ones, or any.
+    fn data(&mut self) -> Vec<u8> {
+        match self.rng.below(40) {
+            0 => vec![0; *self.rng.pick(&[0, 511, 513])],
+            1 => vec![255; DATA],
+            2 => vec![0; DATA],
+            _ => self.rng.bytes(DATA),
+        }
+    }
+
+    /// A sequence: format, then calls and cuts.
+    fn sequence(&mut self, calls: usize) {
+        self.format();
+        let until = self.met.calls() + calls;
+        while self.met.calls() < until {
+            let weights = *self.rng.pick(&MOODS);
+            let mood = Mood { weights, cut_once_in: *self.rng.pick(&[8, 20, 100, 400]), one_change: weights == LONG };
+            for _ in 0..40 + self.rng.below(200) {
+                let mut call = self.draw(&mood);
+                if self.rng.once_in(mood.cut_once_in) {
+                    // most often in a call that programs or erases
+                    for _ in 0..6 {
+                        if !self.operates(&call) {
+                            call = self.draw(&mood);
+                        }
+                    }
+                    let between = self.rng.once_in(6);
+                    self.cut_in(if between { None } else { Some(&call) });
+                    self.recover();
+                } else if self.rng.once_in(150) {
+                    self.refused_format();
+                } else {
+                    self.call(&call);
+                }
+            }
+            self.all_read();
+        }
+    }
+}
+
+/// Geometries, and how many calls their sequences make in all.
+const SIZES: [(u16, u16, u16, usize); 10] = [
+    (8, 8, 16, 60_000),
+    (8, 8, 1, 12_000),
+    (9, 8, 24, 30_000),
+    (12, 8, 48, 30_000),
+    (20, 8, 90, 30_000),
+    (10, 9, 30, 20_000),
+    (16, 16, 60, 24_000),
+    (8, 13, 26, 8_000),
+    (14, 33, 257, 6_000),
+    (11, 64, 320, 4_000),
+];
+
+#[test]
+fn committed_settings_outlive_cuts() {
+    let jobs: Vec<(Geometry, usize, u64)> = SIZES
+        .iter()
+        .flat_map(|&(b, p, l, calls)| {
+            (0..calls.div_ceil(2_000)).map(move |i| (Geometry::new(b, p, l), 2_000, 1_000 * b as u64 + 100 * p as u64 + i as u64))
+        })
+        .collect();
+    let next = std::sync::atomic::AtomicUsize::new(0);
+    let work = || {
+        let (mut met, mut cuts) = (Met::new(), Cuts::default());
+        while let Some(&(g, calls, seed)) = jobs.get(next.fetch_add(1, std::sync::atomic::Ordering::Relaxed)) {
+            let mut run = Run::new(g, seed);
+            run.sequence(calls / 2);
+            run.sequence(calls / 2);
+            met.add(&run.met);
+            cuts.add(&run.cuts);
+        }
+        (met, cuts)
+    };
+    let (mut met, mut cuts) = (Met::new(), Cuts::default());
+    std::thread::scope(|s| {
+        let threads: Vec<_> = (0..2).map(|_| s.spawn(work)).collect();
+        for t in threads {
+            let (m, c) = t.join().expect("a sequence");
+            met.add(&m);
+            cuts.add(&c);
+        }
+    });
+    say(&format!(
+        "book: {} calls and {} cuts agree with the book and on both layers; each command's answers, and how often:",
+        met.calls(),
+        cuts.all()
+    ));
+    met.say();
+    cuts.say();
+    assert!(met.calls() >= 100_000 && cuts.all() >= 5_000);
+    for command in NAMES {
+        assert!(met.times(command, 0) > 0, "{command} was never done");
+    }
+    for command in ["format", "checkpoint", "reclaim"] {
+        assert!(met.times(command, 255) > 0, "{command} never had more to do");
+    }
+    for refusal in [1, 5, 6, 7, 8, 9, 10, 11, 12, 14, 15, 16, 17] {
+        assert!(met.in_all(refusal) > 0, "refusal {refusal} was never met");
+    }
+    for refusal in [2, 3, 4, 13] {
+        assert_eq!(met.in_all(refusal), 0, "refusal {refusal} cannot come in a sequence");
+    }
+}

@@ -1,0 +1,482 @@
+//! Inputs that no sequence makes: any state bytes, any map, any array, any lengths. The proved library and the plain layer, written apart
+//! from it, must answer the same and leave the same bytes; a refusal leaves everything as it was.
+mod common;
+
+use bokuhira::{Call, Geometry, Kind, Place, State, Store, Work, Zones, DATA, HOLD, PAGE, STATE, UNMAPPED};
+use common::{formatted, lost_state, say, spare, whole_page, Layer, Met, Rng, NAMES};
+
+/// Worlds and the calls on them, drawn from one seed.
+struct Maker {
+    rng: Rng,
+    met: Met,
+}
+
+impl Maker {
+    fn new(seed: u64) -> Maker {
+        Maker { rng: Rng::new(seed), met: Met::new() }
+    }
+
+    /// A call on both layers, from the same world. The world becomes what it leaves.
+    fn compare(&mut self, world: &mut Store, call: &Call) -> u8 {
+        let before = world.clone();
+        let mut plain = world.clone();
+        let answer = Layer::Proved.call(world, call);
+        assert_eq!(Layer::Plain.call(&mut plain, call), answer, "plain and proved answer otherwise to {call:?}: {}", told(&before));
+        assert!(*world == plain, "after {call:?}, {answer}: {}\n  proved {}\n  plain  {}", told(&before), told(world), told(&plain));
+        if answer != 0 && answer != 255 {
+            assert!(*world == before, "{call:?} was refused with {answer} and changed something");
+        }
+        if let Call::Read(lpn) = call {
+            let (part, other) = (Layer::Proved.read(world, *lpn), Layer::Plain.read(world, *lpn));
+            assert_eq!(part.map(<[u8]>::as_ptr), other.map(<[u8]>::as_ptr), "the parts of a read");
+            assert_eq!(part.map_or_else(|n| (n, 0), |p| (0, p.len())), (answer, if answer == 0 { DATA } else { 0 }));
+        }
+        self.met.note(call, answer);
+        answer
+    }
+
+    fn below(&mut self, n: usize) -> usize {
+        self.rng.below(n)
+    }
+
+    fn geometry(&mut self) -> Geometry {
+        let (blocks, pages) = (8 + self.below(7), 8 + self.below(5));
+        let most = (blocks - 6) * pages;
+        let logical = match self.below(8) {
+            0 => 1,
+            1 => most,
+            _ => 1 + self.below(most),
+        };
+        Geometry::new(blocks as u16, pages as u16, logical as u16)
+    }
+
+    /// A geometry of two or more map pages.
+    fn wide_geometry(&mut self) -> Geometry {
+        let (blocks, pages) = (24 + self.below(4), 16 + self.below(8));
+        Geometry::new(blocks as u16, pages as u16, 250 + self.below(38) as u16)
+    }
+
+    /// Some of the numbers from..to, each once, in any order.
+    fn some_of(&mut self, from: usize, to: usize, most: usize) -> Vec<usize> {
+        let mut all: Vec<usize> = (from..to).collect();
+        for i in (1..all.len()).rev() {
+            all.swap(i, self.rng.below(i + 1));
+        }
+        all.truncate(self.rng.below(most.min(to - from) + 1));
+        all
+    }
+
+    /// Zone lists in range.
+    fn zones(&mut self, g: Geometry) -> Zones {
+        let data = g.blocks as usize - 2;
+        let mut blocks: Vec<u8> = self.some_of(2, data + 2, data).into_iter().map(|b| b as u8).collect();
+        let mut free = blocks.split_off(self.below(blocks.len() + 1));
+        free.sort_unstable();
+        let unavailable = blocks.split_off(self.below(blocks.len().min(3) + 1));
+        Zones { available: blocks, unavailable, free, pointer: 2 + self.below(data) as u8 }
+    }
+
+    /// A map in range.
+    fn map(&mut self, g: Geometry) -> Vec<u16> {
+        let (from, to) = (2 * g.pages as usize, g.blocks as usize * g.pages as usize);
+        let some = self.some_of(from, to, g.logical as usize);
+        let mut map: Vec<u16> = some.into_iter().map(|n| n as u16).collect();
+        while map.len() < g.logical as usize {
+            let at = self.below(map.len() + 1);
+            map.insert(at, UNMAPPED);
+        }
+        map
+    }
+
+    fn id(&mut self) -> u32 {
+        match self.below(60) {
+            0 => u32::MAX,
+            1 => u32::MAX - 1,
+            2..20 => 0,
+            _ => 1 + self.below(12) as u32,
+        }
+    }
+
+    /// Versions are few, so that some repeat; now and then one of the highest.
+    fn version(&mut self) -> u32 {
+        match self.below(400) {
+            0 => u32::MAX,
+            1 => u32::MAX - 1,
+            _ => 1 + self.below(500) as u32,
+        }
+    }
+
+    /// A spare area of a data page; most pass refusal 4.
+    fn spare(&mut self, g: Geometry) -> [u8; 14] {
+        let lpn = if self.rng.once_in(200) { g.logical } else { self.below(g.logical as usize) as u16 };
+        let odd = if self.rng.once_in(200) { (self.below(3) as u8, self.below(2) as u8) } else { (0, 0) };
+        let id = self.id();
+        let (count, version) = match self.below(300) {
+            0 => (self.below(4) as u16, 0),
+            1 => (0, self.version()),
+            _ if id == 0 => (1, self.version()),
+            n if n % 5 == 0 => (1 + self.below(4) as u16, self.version()),
+            _ => (0, 0),
+        };
+        spare(lpn, count, id, version, odd.0, odd.1)
+    }
+
+    /// Any page: whole, torn, erased or any bytes.
+    fn page(&mut self, g: Geometry) -> Vec<u8> {
+        let byte = self.rng.next() as u8;
+        let mut page = whole_page(&[byte; DATA], &self.spare(g));
+        match self.below(30) {
+            0 => page[self.rng.below(PAGE)] ^= 1 << (byte % 8),
+            1 => page.fill(255),
+            2 => self.rng.fill(&mut page),
+            _ => (),
+        }
+        page
+    }
+
+    fn put(&mut self, world: &mut Store, k: usize, page: &[u8]) {
+        world.array[k * PAGE..][..PAGE].copy_from_slice(page);
+    }
+
+    /// A complete checkpoint from page k on; some of it is spoilt now and then, and yet whole.
+    fn checkpoint(&mut self, world: &mut Store, g: Geometry, k: usize, number: u32) {
+        let m = g.map_pages();
+        let mut entries: Vec<u8> = self.map(g).into_iter().flat_map(u16::to_le_bytes).collect();
+        entries.resize(m * DATA, 255);
+        if self.rng.once_in(12) {
+            let at = self.below(entries.len());
+            entries[at] = self.rng.next() as u8;
+        }
+        let zones = self.zones(g);
+        let mut data = vec![0; DATA];
+        data[..4].copy_from_slice(&(self.below(400) as u32).to_le_bytes());
+        data[4..8].copy_from_slice(&[zones.pointer, zones.available.len() as u8, zones.unavailable.len() as u8, zones.free.len() as u8]);
+        let blocks = [zones.available, zones.unavailable, zones.free].concat();
+        data[8..8 + blocks.len()].copy_from_slice(&blocks);
+        if self.rng.once_in(8) {
+            let among = if self.rng.once_in(6) { DATA - 4 } else { 6 + blocks.len() };
+            let at = 4 + self.below(among);
+            data[at] = self.below(16) as u8;
+        }
+        for i in 0..=m {
+            let (count, kind) = if i == m { (m as u16 + 1, 2) } else { (0, 1) };
+            let mut s = spare(i as u16, count, 0, number, kind, 0);
+            if self.rng.once_in(25) {
+                s[self.rng.below(14)] ^= 1 << self.rng.below(8);
+            }
+            let mut page = whole_page(if i == m { &data } else { &entries[i * DATA..][..DATA] }, &s);
+            if self.rng.once_in(25) {
+                page[self.rng.below(PAGE)] ^= 1;
+            }
+            self.put(world, k + i, &page);
+        }
+    }
+
+    fn place(&mut self, g: Geometry, id: u32) -> Place {
+        let count = if self.rng.once_in(10) { 62 + self.below(3) } else { self.below(6) };
+        let (from, to) = (2 * g.pages as usize, g.blocks as usize * g.pages as usize);
+        let lpns = (0..count).map(|_| self.below(g.logical as usize) as u16).collect();
+        let ppns = (0..count.saturating_sub(1)).map(|_| (from + self.below(to - from)) as u16).collect();
+        Place { id, lpns, ppns }
+    }
+
+    /// A state in range, but for the front page of its work under way.
+    fn state(&mut self, g: Geometry) -> State {
+        let ids = self.some_of(1, 16, 8);
+        let mut places: Vec<Place> = ids.into_iter().map(|id| self.place(g, id as u32)).collect();
+        while places.len() < 8 {
+            let at = self.below(places.len() + 1);
+            places.insert(at, Place::default());
+        }
+        let m = g.map_pages();
+        let (kind, first, stride) = match self.below(8) {
+            0 => (Kind::Format, 0, 1 + self.below(g.blocks as usize + m)),
+            1 => {
+                let first = self.below(g.pages as usize - m);
+                (Kind::Checkpoint, first, if first == 0 { self.below(m + 1) } else { 1 + self.below(m) })
+            }
+            2 => (Kind::Reclaim, 0, 0),
+            _ => (Kind::Idle, 0, 0),
+        };
+        let high = |rng: &mut Rng| if rng.once_in(12) { u32::MAX - rng.below(8) as u32 } else { rng.below(500) as u32 };
+        State {
+            geometry: g,
+            zones: self.zones(g),
+            version: high(&mut self.rng),
+            checkpoint: high(&mut self.rng),
+            front: self.below(2) as u8,
+            first: first as u8,
+            work: Work { kind, stride: stride as u16 },
+            places,
+        }
+    }
+
+    /// A world made up: blocks filled to any height with any pages, checkpoints on the front, a map and a state in range.
+    fn made(&mut self, g: Geometry) -> Store {
+        let mut world = Store::blank(g);
+        world.array.fill(255);
+        let pages = g.pages as usize;
+        for b in 2..g.blocks as usize {
+            let filled = match self.below(3) {
+                0 => 0,
+                1 => pages,
+                _ => self.below(pages + 1),
+            };
+            for q in 0..filled {
+                let page = self.page(g);
+                self.put(&mut world, b * pages + q, &page);
+            }
+        }
+        let mut number = if self.rng.once_in(20) { u32::MAX - 4 } else { self.below(6) as u32 };
+        for front in 0..2 {
+            let mut at = self.below(2);
+            for _ in 0..self.below(4) {
+                if at + g.map_pages() < pages {
+                    self.checkpoint(&mut world, g, front * pages + at, number);
+                }
+                at += g.map_pages() + 1;
+                number = number.wrapping_add(self.below(3) as u32);
+            }
+        }
+        world.map = self.map(g);
+        let state = self.state(g);
+        let (stride, blocks) = (state.work.stride as usize, g.blocks as usize);
+        let next = match state.work.kind {
+            Kind::Format if stride >= blocks => Some(stride - blocks),
+            Kind::Checkpoint => Some(state.front as usize * pages + state.first as usize + stride),
+            _ => None,
+        };
+        if let Some(k) = next.filter(|_| !self.rng.once_in(4)) {
+            self.put(&mut world, k, &[255; PAGE]);
+        }
+        world.state = state.encode();
+        world
+    }
+
+    /// A world that a sequence made.
+    fn lived(&mut self, g: Geometry) -> Store {
+        let mut world = formatted(g);
+        for _ in 0..self.below(160) {
+            let call = self.call(&world, g);
+            if !matches!(call, Call::Format(_)) || self.rng.once_in(30) {
+                Layer::Proved.call(&mut world, &call);
+            }
+        }
+        world
+    }
+
+    /// Any call, its arguments mostly in range.
+    fn call(&mut self, world: &Store, g: Geometry) -> Call {
+        let kind = *self.rng.pick(&[0, 1, 2, 2, 3, 3, 3, 3, 4, 4, 4, 4, 5, 5, 6, 7, 8, 8, 8, 9, 9, 9, 9]);
+        self.call_of(world, g, kind)
+    }
+
+    fn call_of(&mut self, world: &Store, g: Geometry, kind: usize) -> Call {
+        let active: Vec<u32> =
+            State::decode(&world.state).map_or(Vec::new(), |s| s.places.iter().map(|p| p.id).filter(|id| *id != 0).collect());
+        let id = if active.is_empty() || self.rng.once_in(5) { self.id() } else { *self.rng.pick(&active) };
+        let lpn = if self.rng.once_in(30) { self.rng.next() as u16 } else { self.below(g.logical as usize) as u16 };
+        let n = if self.rng.once_in(30) { self.below(1030) } else { DATA };
+        match kind {
+            0 => Call::Format(self.near(g)),
+            1 => Call::Recover(self.near(g)),
+            2 => Call::Begin(if self.rng.once_in(2) { self.id() } else { 13 + self.below(1000) as u32 }),
+            3 => Call::Write { id, lpn, data: self.rng.bytes(n) },
+            4 => Call::Lone { lpn, data: self.rng.bytes(n) },
+            5 => Call::Commit(id),
+            6 => Call::Abort(id),
+            7 => Call::Read(lpn),
+            8 => Call::Checkpoint,
+            _ => Call::Reclaim,
+        }
+    }
+
+    /// Most often that geometry; else one with a number changed.
+    fn near(&mut self, g: Geometry) -> Geometry {
+        let edge = *self.rng.pick(&[0, 1, 7, 8, 16, 64, 65, 128, 129, 1024, 1025, u16::MAX]);
+        match self.below(40) {
+            0 => Geometry { blocks: edge, ..g },
+            1 => Geometry { pages: edge, ..g },
+            2 => Geometry { logical: edge, ..g },
+            3 => Geometry { blocks: g.pages, pages: g.blocks, ..g },
+            _ => g,
+        }
+    }
+
+    /// Spoils one thing.
+    fn spoil(&mut self, world: &mut Store, g: Geometry) {
+        match self.below(14) {
+            0 => world.state = self.rng.bytes(STATE),
+            1 => world.state = lost_state(&mut self.rng),
+            2 | 3 => {
+                let at = self.below(world.state.len().max(1));
+                let byte = if self.rng.once_in(2) { self.below(20) as u8 } else { self.rng.next() as u8 };
+                world.state.get_mut(at).into_iter().for_each(|b| *b = byte);
+            }
+            4 | 5 => self.spoil_field(world),
+            6 => self.past_counts(world),
+            7 => self.spoil_map(world, g),
+            8 => self.spoil_length(world),
+            9 => {
+                let at = self.below(world.array.len().max(1));
+                let bit = 1 << self.below(8);
+                world.array.get_mut(at).into_iter().for_each(|b| *b ^= bit);
+            }
+            10 => self.rng.fill(&mut world.array),
+            _ => {
+                for _ in 0..1 + self.below(6) {
+                    let k = self.below(g.blocks as usize * g.pages as usize);
+                    let page = if self.rng.once_in(4) { vec![255; PAGE] } else { self.page(g) };
+                    if world.array.len() >= (k + 1) * PAGE {
+                        self.put(world, k, &page);
+                    }
+                }
+            }
+        }
+    }
+
+    /// One field of the state gets a value at the edge of its range, or any.
+    fn spoil_field(&mut self, world: &mut Store) {
+        let Some(mut s) = State::decode(&world.state) else { return };
+        let byte = *self.rng.pick(&[0, 1, 2, 3, 7, 8, 9, 63, 64, 65, 127, 128, 129, 255]);
+        let half = *self.rng.pick(&[0, 1, 2, 7, 8, 9, 15, 16, 17, 64, 65, 127, 128, 129, 1023, 1024, 1025, 8191, 8192, u16::MAX]);
+        let word = *self.rng.pick(&[0, 1, 2, 5, 9, u32::MAX - 3, u32::MAX - 2, u32::MAX - 1, u32::MAX]);
+        let i = self.below(8);
+        match self.below(16) {
+            0 => s.geometry.blocks = half,
+            1 => s.geometry.pages = half,
+            2 => s.geometry.logical = half,
+            3 => s.zones.available.push(byte),
+            4 => s.zones.unavailable.push(byte),
+            5 => s.zones.free.push(byte),
+            6 => s.zones.free.reverse(),
+            7 => s.zones.pointer = byte,
+            8 => s.version = word,
+            9 => s.checkpoint = word,
+            10 => s.front = byte,
+            11 => s.first = byte,
+            12 => s.work = Work { kind: *self.rng.pick(&[Kind::Idle, Kind::Format, Kind::Checkpoint, Kind::Reclaim]), stride: half },
+            13 => s.places[i].id = word,
+            14 => s.places[i].lpns.push(half),
+            _ => {
+                let k = self.below(s.places[i].ppns.len().max(1));
+                s.places[i].ppns.get_mut(k).into_iter().for_each(|ppn| *ppn = half);
+            }
+        }
+        world.state = s.encode();
+    }
+
+    /// Bytes past a count, which mean nothing, are anything.
+    fn past_counts(&mut self, world: &mut Store) {
+        if world.state.len() != STATE {
+            return;
+        }
+        for (at, room) in [(6, 3), (10, 126), (137, 126)] {
+            let from = at + (world.state[at + room] as usize).min(room);
+            self.rng.fill(&mut world.state[from..at + room]);
+        }
+        for at in (0..8).map(|i| 278 + 261 * i) {
+            let count = (world.state[at + 4] as usize).min(64);
+            self.rng.fill(&mut world.state[at + 5 + 2 * count..at + 133]);
+            self.rng.fill(&mut world.state[at + 133 + 2 * count.saturating_sub(1)..at + 261]);
+        }
+    }
+
+    fn spoil_map(&mut self, world: &mut Store, g: Geometry) {
+        if world.map.is_empty() {
+            return;
+        }
+        let (at, from) = (self.below(world.map.len()), self.below(world.map.len()));
+        let last = g.blocks * g.pages;
+        world.map[at] = match self.below(5) {
+            0 => world.map[from],
+            1 => *self.rng.pick(&[0, 2 * g.pages - 1, 2 * g.pages, last - 1, last, UNMAPPED - 1]),
+            2 => UNMAPPED,
+            3 => self.rng.next() as u16,
+            _ => {
+                world.map = self.map(g);
+                UNMAPPED
+            }
+        };
+    }
+
+    fn spoil_length(&mut self, world: &mut Store) {
+        let other = |rng: &mut Rng, n: usize| *rng.pick(&[0, 1, n.saturating_sub(1), n + 1, n + PAGE, n / 2]);
+        match self.below(4) {
+            0 => {
+                let n = other(&mut self.rng, world.array.len());
+                world.array.resize(n, 255);
+            }
+            1 => {
+                let n = other(&mut self.rng, world.map.len());
+                world.map.resize(n, UNMAPPED);
+            }
+            2 => {
+                let n = other(&mut self.rng, HOLD);
+                world.hold.resize(n, 7);
+            }
+            _ => {
+                let n = other(&mut self.rng, STATE);
+                world.state.resize(n, 0);
+            }
+        }
+    }
+
+    /// Every command from one world, then a walk from it.
+    fn try_world(&mut self, world: Store, g: Geometry) {
+        for kind in 0..10 {
+            let call = self.call_of(&world, g, kind);
+            self.compare(&mut world.clone(), &call);
+        }
+        let mut world = world;
+        let mut call = self.call(&world, g);
+        for _ in 0..10 {
+            let answer = self.compare(&mut world, &call);
+            if answer != 255 || self.rng.once_in(4) {
+                call = self.call(&world, g);
+            }
+        }
+    }
+}
+
+#[test]
+fn any_input_gives_the_same_on_both_layers() {
+    let work = |seed: u64| {
+        let mut maker = Maker::new(seed);
+        for round in 0..4_000 {
+            let g = if round % 16 == 0 { maker.wide_geometry() } else { maker.geometry() };
+            let mut world = if round % 4 == 0 { maker.lived(g) } else { maker.made(g) };
+            for _ in 0..[0, 0, 1, 1, 1, 2, 3][maker.below(7)] {
+                maker.spoil(&mut world, g);
+            }
+            maker.try_world(world, g);
+        }
+        maker.met
+    };
+    let mut met = Met::new();
+    std::thread::scope(|s| {
+        let threads: Vec<_> = (0..2).map(|seed| s.spawn(move || work(seed))).collect();
+        threads.into_iter().for_each(|t| met.add(&t.join().expect("a world")));
+    });
+    say(&format!("hostile: {} calls agree on both layers; each command's answers, and how often:", met.calls()));
+    met.say();
+    for command in NAMES {
+        assert!(met.times(command, 0) > 0, "{command} was never done");
+        assert!(met.times(command, 1) > 0, "{command} never answered bad frame");
+    }
+    for refusal in 1..=17 {
+        assert!(met.in_all(refusal) > 0, "refusal {refusal} was never met");
+    }
+}
+
+/// What a message tells of a world.
+fn told(world: &Store) -> String {
+    format!(
+        "array of {}, map {:?}, hold of {}, state of {}: {:?}",
+        world.array.len(),
+        world.map,
+        world.hold.len(),
+        world.state.len(),
+        State::decode(&world.state)
+    )
+}
