@@ -1,0 +1,118 @@
+-- The results of a call: of bytes that encode no state, and of what the device replies. Assumes nothing.
+use mathlib.Core.Path.{_≡_, refl, sym, ap, _∙_}
+use mathlib.Core.Bool.{Bool, true, false, cond, not}
+use mathlib.Core.List.{List}
+use Prim.Native.Nat.{ℕ, _*_, _<_}
+use native.Mathlib.Omega.{arith}
+use lib.ListN.{length, getD}
+use lib.Dec.{eqb, leb}
+use borrow.Author.Tests.{eqb-true, eq-eqb, ne-eqb, leb-false, not-true, not-false}
+use Rattle.model.specs.Answers.{refused}
+use Rattle.model.specs.Geometry.{unmapped}
+use Rattle.model.specs.Frame.{gate}
+use Rattle.model.specs.World.{World}
+use Rattle.model.specs.Transactions.{readAnswer}
+use Rattle.model.specs.Commands.{Call, read, Outcome, plan, carried, exec}
+use Rattle.model.specs.declared.State.{State}
+use Rattle.arrays.specs.Tests.{and-left}
+use Rattle.arrays.specs.Frame.{gate-passes, frame-in}
+use Rattle.device.proofs.Framed.{getD-same}
+use Rattle.encoding.specs.Encoding.{encodes, stateFrom, bytesOf}
+use Rattle.bokuhira.specs.Calls.{Result, worldFrom, resultOf, called, Found, foundOf, readCalled}
+
+-- ---- whether bytes encode a state, as the test on them tells
+pub uncoded : (bs : List ℕ) (t : Bool) → t ≡ encodes bs → not t ≡ true → encodes bs ≡ false
+uncoded bs t e h = sym e ∙ not-true t h
+
+pub coded : (bs : List ℕ) (t : Bool) → t ≡ encodes bs → not t ≡ false → encodes bs ≡ true
+coded bs t e h = sym e ∙ not-false t h
+
+-- if so, they are as many as a state has
+pub coded-long : (bs : List ℕ) → encodes bs ≡ true → length bs ≡ 2366
+unfolding encodes
+coded-long bs e = eqb-true (length bs) 2366 (and-left (eqb (length bs) 2366) _ e)
+
+-- ---- the bytes after a reply
+-- it refuses
+pub kept : (n m : ℕ) (bs cs : List ℕ) → n ≡ m → (n ≡ 0 → ⊥) → (n ≡ 255 → ⊥) → (n ≡ m) × (bs ≡ cond (refused m) bs cs)
+unfolding refused
+kept n m bs cs e h k = (e, rw (← e, ne-eqb _ _ h, ne-eqb _ _ k))
+
+-- it does not
+pub stored : (n m : ℕ) (bs cs now : List ℕ) → n ≡ m → refused n ≡ false → now ≡ cs → (n ≡ m) × (now ≡ cond (refused m) bs cs)
+stored n m bs cs now e h k = (e, rw (← e, h) k)
+
+pub done-stands : (n : ℕ) → n ≡ 0 → refused n ≡ false
+unfolding refused
+done-stands n e = rw e
+
+pub more-stands : (n : ℕ) → n ≡ 255 → refused n ≡ false
+unfolding refused
+more-stands n e = rw e
+
+-- ---- a call
+-- of bytes that encode no state
+pub unmet : (c : Call) (xs map hold bs : List ℕ) → encodes bs ≡ false → _≡_ {A = Result} (record { answer = 1; array = xs; map = map; hold = hold; bytes = bs }) (called c xs map hold bs)
+unfolding called
+unmet c xs map hold bs e = rw e
+
+result : (bs : List ℕ) (o : Outcome) (n : ℕ) (ys map hold : List ℕ) (t : State)
+    → _≡_ {A = Outcome} (record { answer = n; world = record { array = ys; map = map; hold = hold; state = t } }) o
+    → _≡_ {A = Result} (record { answer = n; array = ys; map = map; hold = hold; bytes = cond (refused n) bs (bytesOf t) }) (resultOf bs o)
+unfolding resultOf
+result bs o n ys map hold t e = ap (resultOf bs) e
+
+-- of a state that the device replies to
+pub met : (c : Call) (xs map hold bs : List ℕ) (s t : State) (n r : ℕ) (ys map2 hold2 cs : List ℕ) → encodes bs ≡ true → s ≡ stateFrom bs
+    → _≡_ {A = Outcome} (record { answer = n; world = record { array = ys; map = map2; hold = hold2; state = t } }) (exec c (record { array = xs; map = map; hold = hold; state = s }))
+    → (r ≡ n) × (cs ≡ cond (refused n) bs (bytesOf t))
+    → _≡_ {A = Result} (record { answer = r; array = ys; map = map2; hold = hold2; bytes = cs }) (called c xs map hold bs)
+unfolding called
+met c xs map hold bs s t n r ys map2 hold2 cs l e o f =
+    rw (l, f .0, f .1)
+    (result bs (exec c (worldFrom xs map hold bs)) n ys map2 hold2 t (o ∙ ap (λ (u : State). exec c (record { array = xs; map = map; hold = hold; state = u })) e))
+
+-- ---- a read
+-- of bytes that encode no state
+pub read-unmet : (lpn : ℕ) (xs map hold bs : List ℕ) (at : ℕ) → encodes bs ≡ false → _≡_ {A = Found} (record { answer = 1; at = at }) (readCalled lpn xs map hold bs at)
+unfolding readCalled foundOf
+read-unmet lpn xs map hold bs at e = rw e
+
+answered : (lpn : ℕ) (xs map hold bs : List ℕ) (s : State) (n : ℕ) (w : World) → s ≡ stateFrom bs
+    → _≡_ {A = Outcome} (record { answer = n; world = w }) (exec (read lpn) (record { array = xs; map = map; hold = hold; state = s }))
+    → n ≡ exec (read lpn) (worldFrom xs map hold bs) .answer
+answered lpn xs map hold bs s n w e o = ap (λ (u : Outcome). u .answer) (o ∙ ap (λ (u : State). exec (read lpn) (record { array = xs; map = map; hold = hold; state = u })) e)
+
+-- of a state: refused
+pub read-refused : (lpn : ℕ) (xs map hold bs : List ℕ) (at : ℕ) (s : State) (n r : ℕ) (w : World) → encodes bs ≡ true → s ≡ stateFrom bs
+    → _≡_ {A = Outcome} (record { answer = n; world = w }) (exec (read lpn) (record { array = xs; map = map; hold = hold; state = s }))
+    → r ≡ n → (r ≡ 0 → ⊥) → _≡_ {A = Found} (record { answer = r; at = at }) (readCalled lpn xs map hold bs at)
+unfolding readCalled foundOf
+read-refused lpn xs map hold bs at s n r w l e o f h = rw (l, ← answered lpn xs map hold bs s n w e o, ← f, ne-eqb _ _ h)
+
+-- where it is done the map has the page's entry
+passes : (a b c : Bool) → _≡_ {A = ℕ} (cond a (cond b 5 (cond c 14 0)) 1) 0 → (a ≡ true) × (b ≡ false)
+passes true false c e = (refl, refl)
+passes true true c e = absurd (omega arith)
+passes false b c e = absurd (omega arith)
+
+read-within : (lpn : ℕ) (w : World) → readAnswer lpn w ≡ 0 → lpn < length (w .map)
+unfolding readAnswer
+read-within lpn w e =
+    let p = passes (eqb (gate true w) 0) (leb (w .state .geometry .logical) lpn) (eqb (getD (w .map) lpn unmapped) unmapped) e in
+    let l = frame-in w (gate-passes true w (p .0)) .lengths .map in
+    let h = leb-false (w .state .geometry .logical) lpn (p .1) in
+    omega arith
+
+pub mapped : (lpn n r : ℕ) (w v : World) → _≡_ {A = Outcome} (record { answer = n; world = v }) (exec (read lpn) w) → r ≡ n → r ≡ 0 → lpn < length (w .map)
+unfolding exec carried plan
+mapped lpn n r w v o f h = read-within lpn w (sym (ap (λ (u : Outcome). u .answer) o) ∙ sym f ∙ h)
+
+-- done
+pub read-done : (lpn : ℕ) (xs map hold bs : List ℕ) (at : ℕ) (s : State) (n r k : ℕ) (w : World) → encodes bs ≡ true → s ≡ stateFrom bs
+    → _≡_ {A = Outcome} (record { answer = n; world = w }) (exec (read lpn) (record { array = xs; map = map; hold = hold; state = s }))
+    → r ≡ n → r ≡ 0 → k ≡ getD map lpn 0 * 528 → _≡_ {A = Found} (record { answer = r; at = k }) (readCalled lpn xs map hold bs at)
+unfolding readCalled foundOf
+read-done lpn xs map hold bs at s n r k w l e o f h i =
+    let j : getD map lpn 0 ≡ getD map lpn unmapped = getD-same map lpn 0 unmapped (mapped lpn n r (record { array = xs; map = map; hold = hold; state = s }) w o f h) in
+    rw (l, ← answered lpn xs map hold bs s n w e o, ← f, eq-eqb _ _ h, i, j)

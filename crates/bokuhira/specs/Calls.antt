@@ -1,0 +1,52 @@
+-- The calls of a caller who lends the state as bytes: what each answers and leaves is what document 01 plans.
+use Prim.Native.Nat.{ℕ, _*_}
+use mathlib.Core.Bool.{cond}
+use mathlib.Core.List.{List}
+use lib.ListN.{getD}
+use lib.Dec.{eqb}
+use Rattle.model.specs.Answers.{refused}
+use Rattle.model.specs.Geometry.{unmapped}
+use Rattle.model.specs.World.{World}
+use Rattle.model.specs.Commands.{Call, read, Outcome, exec}
+use Rattle.encoding.specs.Encoding.{encodes, stateFrom, bytesOf}
+
+-- the answer, and what the lent slices hold then
+pub record Result : Type 0 where
+  pub answer : ℕ
+  pub array : List ℕ
+  pub map : List ℕ
+  pub hold : List ℕ
+  pub bytes : List ℕ
+
+-- the world that the lent slices say
+abbrev pub worldFrom : List ℕ → List ℕ → List ℕ → List ℕ → World
+worldFrom xs map hold bs = record { array = xs; map = map; hold = hold; state = stateFrom bs }
+
+-- an outcome as the caller has it; "a refusal .. changes nothing"
+unfoldable pub resultOf : List ℕ → Outcome → Result
+resultOf bs o =
+    record {
+      answer = o .answer;
+      array = o .world .array;
+      map = o .world .map;
+      hold = o .world .hold;
+      bytes = cond (refused (o .answer)) bs (bytesOf (o .world .state));
+    }
+
+-- a call: carried out where the bytes encode a state, else a bad frame
+unfoldable pub called : Call → List ℕ → List ℕ → List ℕ → List ℕ → Result
+called c xs map hold bs =
+    cond (encodes bs) (resultOf bs (exec c (worldFrom xs map hold bs))) (record { answer = 1; array = xs; map = map; hold = hold; bytes = bs })
+
+-- a read's answer, and the place of the 512 bytes in the array
+pub record Found : Type 0 where
+  pub answer : ℕ
+  pub at : ℕ
+
+-- where it is not refused they are the first of the mapped page
+unfoldable pub foundOf : ℕ → List ℕ → ℕ → ℕ → Found
+foundOf lpn map at n = record { answer = n; at = cond (eqb n 0) (getD map lpn unmapped * 528) at }
+
+-- a read
+unfoldable pub readCalled : ℕ → List ℕ → List ℕ → List ℕ → List ℕ → ℕ → Found
+readCalled lpn xs map hold bs at = foundOf lpn map at (cond (encodes bs) (exec (read lpn) (worldFrom xs map hold bs) .answer) 1)

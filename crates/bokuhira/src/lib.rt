@@ -1,0 +1,241 @@
+// The commands for callers in C or Rust (include/bokuhira.h). The array, the map, the hold and the state, as bytes (crate `encoding`), are
+// lent as slices. Nothing is required of a caller: bytes that encode no state are a bad frame, answered 1. An answer is a number, 0 done,
+// 255 more, else the refusal's, and a refusal leaves every slice as it was.
+ghost use mathlib.Core.Path.{_≡_};
+ghost use mathlib.Core.Bool.{true, cond};
+ghost use Rattle.model.specs.Answers.{number, refused};
+ghost use Rattle.model.specs.Commands.{format, recover, begin, write, lone, commit, abort, checkpoint, reclaim};
+ghost use Rattle.encoding.specs.Encoding.{encodes, stateFrom, bytesOf};
+ghost use Rattle.bokuhira.specs.Calls.{Result, called, Found, readCalled};
+use device::Device;
+use device::Reply;
+use model::Geometry;
+
+/// The device whose state the bytes say.
+fn device(state: &[u8]) -> Device
+    requires { ⌜ encodes (now state) ≡ true ⌝ }
+    ensures { λ r. ⌜ r .state ≡ stateFrom (now (state .entry)) ⌝ }
+{
+    let s = encoding::load(state);
+    Device { state: s }
+}
+
+/// The answer's number of a reply; unless it refuses, its state is stored.
+fn finish(state: &mut [u8], r: Reply) -> u8
+    requires { ⌜ encodes (now state) ≡ true ⌝ }
+    ensures { λ n. ⌜ (n ≡ number (r .answer)) × (now (state .exit) ≡ cond (refused (number (r .answer))) (now (state .entry)) (bytesOf (r .device .state))) ⌝ }
+{
+    let a = r.answer;
+    let n = answers::number(a);
+    if n != 0 {
+        if n != 255 {
+            return n;
+        }
+    }
+    let d = r.device;
+    let s = d.state;
+    encoding::store(state, s);
+    n
+}
+
+/// One stride of a format.
+#[no_mangle]
+pub extern "C" fn bokuhira_format(
+    array: &mut [u8],
+    map: &mut [u16],
+    hold: &[u8],
+    state: &mut [u8],
+    blocks: u16,
+    pages: u16,
+    logical: u16,
+) -> u8
+    ensures { λ r. ⌜ _≡_ {A = Result} (record { answer = r; array = now (array .exit); map = now (map .exit); hold = now (hold .entry); bytes = now (state .exit) }) (called (format (record { blocks = blocks; pages = pages; logical = logical })) (now (array .entry)) (now (map .entry)) (now (hold .entry)) (now (state .entry))) ⌝ }
+{
+    if !encoding::encodes(state) {
+        return 1;
+    }
+    let g = Geometry {
+        blocks,
+        pages,
+        logical,
+    };
+    let r = device(state).format(array, map, hold, g);
+    finish(state, r)
+}
+
+/// Makes map and state from what stands on the array.
+#[no_mangle]
+pub extern "C" fn bokuhira_recover(
+    array: &[u8],
+    map: &mut [u16],
+    hold: &[u8],
+    state: &mut [u8],
+    blocks: u16,
+    pages: u16,
+    logical: u16,
+) -> u8
+    ensures { λ r. ⌜ _≡_ {A = Result} (record { answer = r; array = now (array .entry); map = now (map .exit); hold = now (hold .entry); bytes = now (state .exit) }) (called (recover (record { blocks = blocks; pages = pages; logical = logical })) (now (array .entry)) (now (map .entry)) (now (hold .entry)) (now (state .entry))) ⌝ }
+{
+    if !encoding::encodes(state) {
+        return 1;
+    }
+    let g = Geometry {
+        blocks,
+        pages,
+        logical,
+    };
+    let r = device(state).recover(array, map, hold, g);
+    finish(state, r)
+}
+
+/// Opens a change.
+#[no_mangle]
+pub extern "C" fn bokuhira_begin(
+    array: &[u8],
+    map: &[u16],
+    hold: &[u8],
+    state: &mut [u8],
+    id: u32,
+) -> u8
+    ensures { λ r. ⌜ _≡_ {A = Result} (record { answer = r; array = now (array .entry); map = now (map .entry); hold = now (hold .entry); bytes = now (state .exit) }) (called (begin id) (now (array .entry)) (now (map .entry)) (now (hold .entry)) (now (state .entry))) ⌝ }
+{
+    if !encoding::encodes(state) {
+        return 1;
+    }
+    let r = device(state).begin(array, map, hold, id);
+    finish(state, r)
+}
+
+/// Adds a page to an open change.
+#[no_mangle]
+pub extern "C" fn bokuhira_write(
+    array: &mut [u8],
+    map: &[u16],
+    hold: &mut [u8],
+    state: &mut [u8],
+    data: &[u8],
+    id: u32,
+    lpn: u16,
+) -> u8
+    ensures { λ r. ⌜ _≡_ {A = Result} (record { answer = r; array = now (array .exit); map = now (map .entry); hold = now (hold .exit); bytes = now (state .exit) }) (called (write id lpn (now («data» .entry))) (now (array .entry)) (now (map .entry)) (now (hold .entry)) (now (state .entry))) ⌝ }
+{
+    if !encoding::encodes(state) {
+        return 1;
+    }
+    let r = device(state).write(array, map, hold, id, lpn, data);
+    finish(state, r)
+}
+
+/// Writes a page by itself.
+#[no_mangle]
+pub extern "C" fn bokuhira_lone(
+    array: &mut [u8],
+    map: &mut [u16],
+    hold: &[u8],
+    state: &mut [u8],
+    data: &[u8],
+    lpn: u16,
+) -> u8
+    ensures { λ r. ⌜ _≡_ {A = Result} (record { answer = r; array = now (array .exit); map = now (map .exit); hold = now (hold .entry); bytes = now (state .exit) }) (called (lone lpn (now («data» .entry))) (now (array .entry)) (now (map .entry)) (now (hold .entry)) (now (state .entry))) ⌝ }
+{
+    if !encoding::encodes(state) {
+        return 1;
+    }
+    let r = device(state).lone(array, map, hold, lpn, data);
+    finish(state, r)
+}
+
+/// Closes a change and enters its pages.
+#[no_mangle]
+pub extern "C" fn bokuhira_commit(
+    array: &mut [u8],
+    map: &mut [u16],
+    hold: &[u8],
+    state: &mut [u8],
+    id: u32,
+) -> u8
+    ensures { λ r. ⌜ _≡_ {A = Result} (record { answer = r; array = now (array .exit); map = now (map .exit); hold = now (hold .entry); bytes = now (state .exit) }) (called (commit id) (now (array .entry)) (now (map .entry)) (now (hold .entry)) (now (state .entry))) ⌝ }
+{
+    if !encoding::encodes(state) {
+        return 1;
+    }
+    let r = device(state).commit(array, map, hold, id);
+    finish(state, r)
+}
+
+/// Forgets an open change.
+#[no_mangle]
+pub extern "C" fn bokuhira_abort(
+    array: &[u8],
+    map: &[u16],
+    hold: &[u8],
+    state: &mut [u8],
+    id: u32,
+) -> u8
+    ensures { λ r. ⌜ _≡_ {A = Result} (record { answer = r; array = now (array .entry); map = now (map .entry); hold = now (hold .entry); bytes = now (state .exit) }) (called (abort id) (now (array .entry)) (now (map .entry)) (now (hold .entry)) (now (state .entry))) ⌝ }
+{
+    if !encoding::encodes(state) {
+        return 1;
+    }
+    let r = device(state).abort(array, map, hold, id);
+    finish(state, r)
+}
+
+/// Whether a logical page can be read; if so, `at` becomes the place in the array at which its 512 bytes begin.
+#[no_mangle]
+pub extern "C" fn bokuhira_read(
+    array: &[u8],
+    map: &[u16],
+    hold: &[u8],
+    state: &[u8],
+    at: &mut usize,
+    lpn: u16,
+) -> u8
+    ensures { λ r. ⌜ _≡_ {A = Found} (record { answer = r; at = now (at .exit) }) (readCalled lpn (now (array .entry)) (now (map .entry)) (now (hold .entry)) (now (state .entry)) (now (at .entry))) ⌝ }
+{
+    if !encoding::encodes(state) {
+        return 1;
+    }
+    let a = device(state).read(array, map, hold, lpn);
+    let n = answers::number(a);
+    if n != 0 {
+        return n;
+    }
+    let i = lpn as usize;
+    *at = map[i] as usize * 528;
+    n
+}
+
+/// One stride of a checkpoint.
+#[no_mangle]
+pub extern "C" fn bokuhira_checkpoint(
+    array: &mut [u8],
+    map: &[u16],
+    hold: &[u8],
+    state: &mut [u8],
+) -> u8
+    ensures { λ r. ⌜ _≡_ {A = Result} (record { answer = r; array = now (array .exit); map = now (map .entry); hold = now (hold .entry); bytes = now (state .exit) }) (called checkpoint (now (array .entry)) (now (map .entry)) (now (hold .entry)) (now (state .entry))) ⌝ }
+{
+    if !encoding::encodes(state) {
+        return 1;
+    }
+    let r = device(state).checkpoint(array, map, hold);
+    finish(state, r)
+}
+
+/// One stride of a reclaim.
+#[no_mangle]
+pub extern "C" fn bokuhira_reclaim(
+    array: &mut [u8],
+    map: &mut [u16],
+    hold: &[u8],
+    state: &mut [u8],
+) -> u8
+    ensures { λ r. ⌜ _≡_ {A = Result} (record { answer = r; array = now (array .exit); map = now (map .exit); hold = now (hold .entry); bytes = now (state .exit) }) (called reclaim (now (array .entry)) (now (map .entry)) (now (hold .entry)) (now (state .entry))) ⌝ }
+{
+    if !encoding::encodes(state) {
+        return 1;
+    }
+    let r = device(state).reclaim(array, map, hold);
+    finish(state, r)
+}

@@ -1,0 +1,45 @@
+-- Structs made of what was read for each field. Assumes nothing.
+use mathlib.Core.Path.{_≡_, refl}
+use mathlib.Core.List.{List, [], _∷_}
+use Prim.Native.Nat.{ℕ, _+_, _*_}
+use lib.ListN.{getD}
+use Rattle.model.specs.Lists.{part}
+use Rattle.model.specs.Bytes.{le16, le32, words}
+use Rattle.model.specs.declared.Geometry.{Geometry}
+use Rattle.model.specs.declared.Place.{Place}
+use Rattle.model.specs.declared.Zones.{Zones}
+use Rattle.model.specs.declared.State.{State}
+use Rattle.model.specs.declared.Work.{Work}
+use Rattle.encoding.specs.Encoding.{zonesFrom, workFrom, placeFrom, placesIn, stateFrom}
+
+pub zones-read : (xs a u f : List ℕ) → a ≡ part 6 3 xs → u ≡ part 10 126 xs → f ≡ part 137 126 xs
+    → _≡_ {A = Zones} (record { available = a; na = getD xs 9 0; unavailable = u; nu = getD xs 136 0; free = f; nf = getD xs 263 0; pointer = getD xs 264 0 }) (zonesFrom xs)
+unfolding zonesFrom
+zones-read xs a u f e1 e2 e3 = rw (e1, e2, e3)
+
+pub place-read : (xs : List ℕ) (i id : ℕ) (ls ps : List ℕ) → id ≡ le32 xs (278 + 261 * i) → ls ≡ words (part (278 + 261 * i + 5) 128 xs)
+    → ps ≡ words (part (278 + 261 * i + 133) 128 xs)
+    → _≡_ {A = Place} (record { id = id; count = getD xs (278 + 261 * i + 4) 0; lpns = ls; ppns = ps }) (placeFrom xs i)
+unfolding placeFrom
+place-read xs i id ls ps e1 e2 e3 = rw (e1, e2, e3)
+
+pub places-read : (xs : List ℕ) (a b c d e f g h : Place) → a ≡ placeFrom xs 0 → b ≡ placeFrom xs 1 → c ≡ placeFrom xs 2 → d ≡ placeFrom xs 3
+    → e ≡ placeFrom xs 4 → f ≡ placeFrom xs 5 → g ≡ placeFrom xs 6 → h ≡ placeFrom xs 7
+    → (a ∷ b ∷ c ∷ d ∷ e ∷ f ∷ g ∷ h ∷ []) ≡ placesIn xs 8
+unfolding placesIn
+places-read xs a b c d e f g h e1 e2 e3 e4 e5 e6 e7 e8 = rw (e1, e2, e3, e4, e5, e6, e7, e8)
+
+pub state-read : (xs : List ℕ) (b p l v n : ℕ) (z : Zones) (w : Work) (ps : List Place) → b ≡ le16 xs 0 → p ≡ le16 xs 2 → l ≡ le16 xs 4
+    → z ≡ zonesFrom xs → v ≡ le32 xs 265 → n ≡ le32 xs 269 → w ≡ workFrom (getD xs 275 0) (le16 xs 276) → ps ≡ placesIn xs 8
+    → _≡_ {A = State} (record {
+      geometry = record { blocks = b; pages = p; logical = l };
+      zones = z;
+      version = v;
+      checkpoint = n;
+      front = getD xs 273 0;
+      first = getD xs 274 0;
+      work = w;
+      places = ps;
+    }) (stateFrom xs)
+unfolding stateFrom
+state-read xs b p l v n z w ps e1 e2 e3 e4 e5 e6 e7 e8 = rw (e1, e2, e3, e4, e5, e6, e7, e8)

@@ -1,0 +1,29 @@
+-- `encoding::encodes` meets its contract. Assumes nothing.
+use mathlib.Core.Path.{_≡_}
+use borrow.Author.Needs.{needs}
+use borrow.Author.Tests.{eq-eqb, ne-eqb}
+use Rattle.encoding.specs.Encoding.{encodes}
+use Rattle.encoding.proofs.encodes.Statement.{statement}
+use Rattle.encoding.proofs.encodes.Tie as tie
+
+returns : tie.Need-returns
+unfolding encodes
+returns c = rw (ne-eqb _ _ (c .if1 .taken))
+
+shared-slice-read-work-coded : tie.Need-shared-slice-read-work-coded
+shared-slice-read-work-coded c = search needs
+
+word16-requires : tie.Need-word16-requires
+word16-requires c κs = search needs
+
+work-coded-requires : tie.Need-work-coded-requires
+work-coded-requires c κs = search needs
+
+returns-2 : tie.Need-returns-2
+unfolding encodes
+returns-2 c = rw (eq-eqb _ _ (c .before .before .before .if1 .left), ← c .before .word16 .ensures) (c .work-coded .ensures)
+
+pub encodes-spec : {M : Type 1} → statement M
+encodes-spec =
+    tie.close
+    (tie.spec returns shared-slice-read-work-coded word16-requires work-coded-requires returns-2)

@@ -1,0 +1,113 @@
+-- A state as 2,366 bytes, and the state that such bytes say. Where each field stands is said in src/lib.rt.
+use mathlib.Core.Path.{_≡_}
+use Prim.Native.Nat.{ℕ, zero, suc, _+_, _*_, _≤_}
+use mathlib.Core.Bool.{Bool, cond, _&&_, _||_}
+use mathlib.Core.List.{List, [], _∷_, _++_}
+use lib.ListN.{length, getD}
+use lib.Dec.{eqb}
+use Rattle.model.specs.Lists.{part, splice}
+use Rattle.model.specs.Bytes.{le16, le32, bytes16, bytes32, words}
+use Rattle.model.specs.declared.Geometry.{Geometry}
+use Rattle.model.specs.declared.Place.{Place}
+use Rattle.model.specs.declared.Zones.{Zones}
+use Rattle.model.specs.declared.State.{State}
+use Rattle.model.specs.declared.Work.{Work}
+use Rattle.model.specs.declared.Work.the-variants.{Idle, Format, Checkpoint, Reclaim}
+
+-- ---- from bytes
+-- the zones
+unfoldable pub zonesFrom : List ℕ → Zones
+zonesFrom xs =
+    record {
+      available = part 6 3 xs;
+      na = getD xs 9 0;
+      unavailable = part 10 126 xs;
+      nu = getD xs 136 0;
+      free = part 137 126 xs;
+      nf = getD xs 263 0;
+      pointer = getD xs 264 0;
+    }
+
+-- the work of a kind and a stride number
+unfoldable pub workFrom : ℕ → ℕ → Work
+workFrom kind stride = cond (eqb kind 1) (Format stride) (cond (eqb kind 2) (Checkpoint stride) (cond (eqb kind 3) Reclaim Idle))
+
+-- place i
+unfoldable pub placeFrom : List ℕ → ℕ → Place
+placeFrom xs i =
+    record {
+      id = le32 xs (278 + 261 * i);
+      count = getD xs (278 + 261 * i + 4) 0;
+      lpns = words (part (278 + 261 * i + 5) 128 xs);
+      ppns = words (part (278 + 261 * i + 133) 128 xs);
+    }
+
+-- the first n places
+unfoldable pub placesIn : List ℕ → ℕ → List Place
+placesIn xs zero = []
+placesIn xs (suc n) = placesIn xs n ++ (placeFrom xs n ∷ [])
+
+-- the state
+unfoldable pub stateFrom : List ℕ → State
+stateFrom xs =
+    record {
+      geometry = record { blocks = le16 xs 0; pages = le16 xs 2; logical = le16 xs 4 };
+      zones = zonesFrom xs;
+      version = le32 xs 265;
+      checkpoint = le32 xs 269;
+      front = getD xs 273 0;
+      first = getD xs 274 0;
+      work = workFrom (getD xs 275 0) (le16 xs 276);
+      places = placesIn xs 8;
+    }
+
+-- a kind of work, with a stride number if it is a format or a checkpoint
+unfoldable pub workCoded : ℕ → ℕ → Bool
+workCoded kind stride = eqb kind 1 || (eqb kind 2 || (eqb stride 0 && (eqb kind 0 || eqb kind 3)))
+
+-- whether bytes encode a state
+unfoldable pub encodes : List ℕ → Bool
+encodes xs = eqb (length xs) 2366 && workCoded (getD xs 275 0) (le16 xs 276)
+
+-- ---- to bytes
+-- the bytes of each, one after the other
+module _ {A : Type 0} where
+  unfoldable pub each : (A → List ℕ) → List A → List ℕ
+  each f [] = []
+  each f (x ∷ xs) = f x ++ each f xs
+
+-- the zones
+unfoldable pub zoneBytes : Zones → List ℕ
+zoneBytes z = z .available ++ (z .na ∷ []) ++ z .unavailable ++ (z .nu ∷ []) ++ z .free ++ (z .nf ∷ []) ++ (z .pointer ∷ [])
+
+-- the kind of a work
+abbrev pub kindOf : Work → ℕ
+kindOf Idle = 0
+kindOf (Format k) = 1
+kindOf (Checkpoint k) = 2
+kindOf Reclaim = 3
+
+-- its stride number
+abbrev pub strideOf : Work → ℕ
+strideOf Idle = 0
+strideOf (Format k) = k
+strideOf (Checkpoint k) = k
+strideOf Reclaim = 0
+
+-- a place
+unfoldable pub placeBytes : Place → List ℕ
+placeBytes p = bytes32 (p .id) ++ (p .count ∷ []) ++ each bytes16 (p .lpns) ++ each bytes16 (p .ppns)
+
+-- the state
+unfoldable pub bytesOf : State → List ℕ
+bytesOf s =
+    bytes16 (s .geometry .blocks) ++ bytes16 (s .geometry .pages) ++ bytes16 (s .geometry .logical) ++ zoneBytes (s .zones)
+    ++ bytes32 (s .version) ++ bytes32 (s .checkpoint) ++ (s .front ∷ []) ++ (s .first ∷ [])
+    ++ (kindOf (s .work) ∷ []) ++ bytes16 (strideOf (s .work)) ++ each placeBytes (s .places)
+
+-- ---- bytes laid among others: of xs, the n bytes from a on are replaced by ys
+pub record Laid (xs : List ℕ) (a n : ℕ) (ys now : List ℕ) : Type 0 where
+  pub long : length ys ≡ n
+  pub fits : a + n ≤ length xs
+  pub same : length now ≡ length xs
+  pub is : now ≡ splice xs a n ys
