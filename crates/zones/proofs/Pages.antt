@@ -17,6 +17,10 @@ use Rattle.model.specs.declared.Zones.{Zones}
 use Rattle.arrays.specs.Tests.{and-right-false, any-append}
 use Rattle.arrays.specs.Scan.{run-zero, run-suc, scan-append}
 
+pub and-true : (w : Bool) → (w && true) ≡ w
+and-true true = refl
+and-true false = refl
+
 module _ (q : Entry → Bool) (xs : List ℕ) where
   -- ---- page k
   pub page-passes : (k : ℕ) → any q (entryAt xs k) ≡ (wholeAt xs k && q (entryOf k (spareOf (pageAt xs k))))
@@ -79,10 +83,6 @@ module _ (xs : List ℕ) (k id : ℕ) (s : Spare) (e : s ≡ spareOf (pageAt xs 
 
   pub same-page : s .id ≡ id → wholeAt xs k ≡ onPages id (entryAt xs k)
   same-page h = sym (on-page ∙ rw (eq-eqb (s .id) id h) (and-true (wholeAt xs k)))
-    where
-      and-true : (w : Bool) → (w && true) ≡ w
-      and-true true = refl
-      and-true false = refl
 
 -- ---- an identifier on the n pages from page k on, of which i are passed
 pub ids-start : (id : ℕ) (xs : List ℕ) (k n : ℕ) → onPages id (wholeFrom xs k n) ≡ onPages id (wholeFrom xs (k + 0) (n - 0))
