@@ -1,7 +1,7 @@
 // Scan order, and what a checkpoint moves between the zones.
 // An identifier is compared before a page is classed, so a page is classed only where its answer counts.
-// A slide lists the identifiers on the pages of the near blocks, those still available, first: at most 192, of 3 blocks of 64 pages.
-// It then compares numbers, and a page is classed at most once.
+// A slide first lists the identifiers on whole pages of the near blocks, those still available: 3 of at most 64 pages, so at most 192. From
+// then on it compares numbers from spare areas, and a page of another block is classed, once, where its identifier is wanted.
 ghost use mathlib.Core.Path.{_≡_};
 ghost use mathlib.Core.Bool.{true, not};
 ghost use Prim.Native.Nat.{ℕ, _+_, _*_, _≤_, _<_};
@@ -93,7 +93,7 @@ fn id_at(array: &[u8], k: usize) -> u32
     s.id
 }
 
-/// Puts the identifiers other than 0 of the whole pages among `pages` from page k on behind the n that are listed; returns how many there are then.
+/// Lists the identifiers other than 0 of the whole pages among some from page k on, behind the n already listed; returns how many are listed.
 fn list_ids(array: &[u8], k: usize, pages: usize, near: &mut [u32], n: usize) -> usize
     requires { ⌜ (k * 528 + pages * 528 ≤ length (now array)) × (n + pages ≤ length (now near)) ⌝ }
     ensures { λ r. ⌜ (take r (now (near .exit)) ≡ take n (now (near .entry)) ++ idsIn (wholeFrom (now (array .entry)) k pages)) × (r ≤ n + pages) ⌝ }
@@ -113,7 +113,7 @@ fn list_ids(array: &[u8], k: usize, pages: usize, near: &mut [u32], n: usize) ->
     m
 }
 
-/// Lists the identifiers other than 0 of the whole pages of some blocks; returns how many there are.
+/// Lists the identifiers other than 0 of the whole pages of the near blocks; returns how many are listed.
 fn list_near(array: &[u8], pages: usize, bs: &[u8], near: &mut [u32]) -> usize
     requires { ⌜ Near (now array) pages (now bs) × (length (now near) ≡ 192) ⌝ }
     ensures { λ r. ⌜ (take r (now (near .exit)) ≡ idsIn (scanIn (now (array .entry)) pages (now (bs .entry)))) × (r ≤ 192) ⌝ }
@@ -202,17 +202,18 @@ fn judge(out: Blocks, array: &[u8], pages: usize, ids: [u32; 8], near: &[u32], b
     kept
 }
 
-/// Whether block b has no clean page.
+/// Whether block b has no clean page: its last one is not erased.
 fn is_full(array: &[u8], pages: usize, b: usize) -> bool
-    requires { ⌜ b * pages * 528 + pages * 528 ≤ length (now array) ⌝ }
+    requires { ⌜ (b * pages * 528 + pages * 528 ≤ length (now array)) × (1 ≤ pages) ⌝ }
     ensures { λ r. ⌜ r ≡ isFull (now (array .entry)) pages b ⌝ }
 {
-    flash::used_in(array, pages, b) == pages
+    let last = b * pages + (pages - 1);
+    !flash::is_blank(array, last)
 }
 
 /// Those of some blocks that are not full.
 fn staying(array: &[u8], pages: usize, bs: &[u8]) -> Blocks
-    requires { ⌜ Within (length (now array)) pages (now bs) ⌝ }
+    requires { ⌜ Within (length (now array)) pages (now bs) × (1 ≤ pages) ⌝ }
     ensures { λ r. ⌜ r ≡ blocksOf (staying (now (array .entry)) pages (now (bs .entry))) ⌝ }
 {
     let mut out = blocks::none();
@@ -231,7 +232,7 @@ fn staying(array: &[u8], pages: usize, bs: &[u8]) -> Blocks
 
 /// Those of some blocks that are full.
 fn leaving(array: &[u8], pages: usize, bs: &[u8]) -> Blocks
-    requires { ⌜ Within (length (now array)) pages (now bs) ⌝ }
+    requires { ⌜ Within (length (now array)) pages (now bs) × (1 ≤ pages) ⌝ }
     ensures { λ r. ⌜ r ≡ blocksOf (leaving (now (array .entry)) pages (now (bs .entry))) ⌝ }
 {
     let mut out = blocks::none();
