@@ -1,6 +1,7 @@
--- Walking the whole pages of blocks: what a turn of a loop shows of a test of the pages that are left. Assumes nothing.
+-- Walking the whole pages of blocks: what a turn of a loop shows of a test of the pages that are left, and what the last page of a block
+-- shows. Assumes nothing.
 use mathlib.Core.Path.{_≡_, refl, sym, ap, _∙_}
-use mathlib.Core.Bool.{Bool, true, false, _&&_, _||_}
+use mathlib.Core.Bool.{Bool, true, false, not, _&&_, _||_}
 use mathlib.Core.List.{List, _∷_, []}
 use Prim.Native.Nat.{ℕ, suc, _+_, _-_, _*_, _≤_, _<_}
 use native.Mathlib.Numerals.{add-one}
@@ -10,12 +11,17 @@ use lib.Seq.{drop-cons}
 use lib.Dec.{eqb}
 use borrow.Author.Tests.{eq-eqb, ne-eqb}
 use Rattle.model.specs.Lists.{any, keep}
-use Rattle.model.specs.Page.{spareOf, pageAt, wholeAt}
-use Rattle.model.specs.Zones.{Entry, availableOf, unavailableOf, entryOf, entryAt, wholeFrom, scanIn, scanOf, onPages}
+use Rattle.model.specs.Page.{spareOf, pageAt, blankAt, wholeAt, usedFrom}
+use Rattle.model.specs.Zones.{Entry, availableOf, unavailableOf, entryOf, entryAt, wholeFrom, scanIn, scanOf, onPages, usedIn, isFull}
 use Rattle.model.specs.declared.Spare.{Spare}
 use Rattle.model.specs.declared.Zones.{Zones}
 use Rattle.arrays.specs.Tests.{and-right-false, any-append}
+use Rattle.arrays.specs.Used.{used-le, used-clean-end, used-end}
 use Rattle.arrays.specs.Scan.{run-zero, run-suc, scan-append}
+
+pub and-true : (w : Bool) → (w && true) ≡ w
+and-true true = refl
+and-true false = refl
 
 module _ (q : Entry → Bool) (xs : List ℕ) where
   -- ---- page k
@@ -79,10 +85,6 @@ module _ (xs : List ℕ) (k id : ℕ) (s : Spare) (e : s ≡ spareOf (pageAt xs 
 
   pub same-page : s .id ≡ id → wholeAt xs k ≡ onPages id (entryAt xs k)
   same-page h = sym (on-page ∙ rw (eq-eqb (s .id) id h) (and-true (wholeAt xs k)))
-    where
-      and-true : (w : Bool) → (w && true) ≡ w
-      and-true true = refl
-      and-true false = refl
 
 -- ---- an identifier on the n pages from page k on, of which i are passed
 pub ids-start : (id : ℕ) (xs : List ℕ) (k n : ℕ) → onPages id (wholeFrom xs k n) ≡ onPages id (wholeFrom xs (k + 0) (n - 0))
@@ -129,3 +131,18 @@ module _ (id : ℕ) (xs : List ℕ) (p : ℕ) (z : Zones) where
 
   pub in-second : onPages id (scanIn xs p (unavailableOf z)) ≡ false → onPages id (scanIn xs p (availableOf z)) ≡ onPages id (scanOf xs p z)
   in-second h = sym (scanned ∙ rw h)
+
+-- ---- a block is full where its last page is not erased
+pub full-last : (xs : List ℕ) (p b : ℕ) → 1 ≤ p → not (blankAt xs (b * p + (p - 1))) ≡ isFull xs p b
+unfolding isFull usedIn
+full-last xs p b h = go (blankAt xs (b * p + (p - 1))) refl
+  where
+    go : (t : Bool) → blankAt xs (b * p + (p - 1)) ≡ t → not t ≡ eqb (usedFrom xs (b * p) p) p
+    go true e =
+        let m : p ≡ suc (p - 1) = omega arith in
+        let u : usedFrom xs (b * p) p ≡ usedFrom xs (b * p) (p - 1) = ap (usedFrom xs (b * p)) m ∙ used-clean-end xs (b * p) (p - 1) e in
+        let l = used-le xs (b * p) (p - 1) in
+        sym (ne-eqb (usedFrom xs (b * p) p) p (λ k. omega arith))
+    go false e =
+        let m : p ≡ suc (p - 1) = omega arith in
+        sym (eq-eqb (usedFrom xs (b * p) p) p (ap (usedFrom xs (b * p)) m ∙ used-end xs (b * p) (p - 1) e ∙ sym m))

@@ -14,6 +14,7 @@ use Rattle.model.specs.declared.Geometry.{Geometry}
 use Rattle.model.specs.declared.Place.{Place}
 use Rattle.model.specs.declared.Zones.{Zones}
 use Rattle.arrays.specs.Tests.{those-append}
+use Rattle.arrays.specs.Ranges.{geometry-in}
 use Rattle.flash.specs.Ranges.{Within}
 use Rattle.flash.proofs.Ranges.{within-data}
 use Rattle.blocks.specs.declared.Blocks.{Blocks}
@@ -21,7 +22,7 @@ use Rattle.blocks.specs.Blocks.{blocksOf, listOf}
 use Rattle.blocks.proofs.Kept.{kept-list, kept-count}
 use Rattle.places.specs.Ids.{idsOf}
 use Rattle.refill.specs.Taking.{Fits}
-use Rattle.zones.specs.Judging.{holdsBy, Ready, Room, Leaving}
+use Rattle.zones.specs.Judging.{idsIn, holdsBy, Ready, Room, Leaving}
 use Rattle.zones.proofs.Picks.{length-those, all-those}
 use Rattle.zones.proofs.Wanted.{judged-by}
 use Rattle.zones.proofs.Listed.{ready-listed, unavailable-within}
@@ -36,26 +37,26 @@ unfolding blocksOf padTo
 kept-inside r xs e = rw e (omega (arith, length-append xs (replicate (126 - length xs) 0)))
 
 -- ---- the unavailable blocks and then the leavers, judged: none is `out`, the first ones kept are `kept`
-module _ (xs : List ℕ) (p : ℕ) (z : Zones) (stay leave : Blocks) (h : Leaving xs p z stay leave) (q : ℕ → Bool) (out : Blocks) (eo : out ≡ blocksOf []) where
-  pub first-room : Room xs p (listOf stay) (unavailableOf z) out
+module _ (xs : List ℕ) (p : ℕ) (z : Zones) (stay leave : Blocks) (h : Leaving xs p z stay leave) (out : Blocks) (eo : out ≡ blocksOf []) where
+  pub first-room : Room xs p (unavailableOf z) out
   first-room =
       let c = kept-count out [] eo in
       let l = length-take (z .nu) (z .unavailable) in
       let s = h .space in
-      record { nearby = h .near; listed = h .old; space = omega arith; kept = kept-again out [] eo }
+      record { listed = h .old; space = omega arith; kept = kept-again out [] eo }
 
-  module _ (kept : Blocks) (ek : kept ≡ blocksOf (listOf out ++ those q (unavailableOf z))) where
+  module _ (q : ℕ → Bool) (kept : Blocks) (ek : kept ≡ blocksOf (listOf out ++ those q (unavailableOf z))) where
     first-is : kept ≡ blocksOf (those q (unavailableOf z))
     first-is = ek ∙ rw (kept-list out [] eo)
 
-    pub second-room : Room xs p (listOf stay) (listOf leave) kept
+    pub second-room : Room xs p (listOf leave) kept
     second-room =
         let c = kept-count kept (those q (unavailableOf z)) first-is in
         let t = length-those q (unavailableOf z) in
         let l = length-take (z .nu) (z .unavailable) in
         let m = length-take (leave .n) (leave .list) in
         let s = h .space in
-        record { nearby = h .near; listed = h .new; space = omega arith; kept = kept-again kept (those q (unavailableOf z)) first-is }
+        record { listed = h .new; space = omega arith; kept = kept-again kept (those q (unavailableOf z)) first-is }
 
     pub both-are : (r : Blocks) → r ≡ blocksOf (listOf kept ++ those q (listOf leave)) → r ≡ blocksOf (those q (unavailableOf z ++ listOf leave))
     both-are r e = e ∙ rw (kept-list kept (those q (unavailableOf z)) first-is, those-append q (unavailableOf z) (listOf leave))
@@ -94,10 +95,11 @@ module _ (g : Geometry) (xs : List ℕ) (z : Zones) (ready : Ready g xs z) where
         let left : ℕ → Bool = λ (b : ℕ). not (isFull xs (g .pages) b) in
         let cl = kept-count leave (those full (availableOf z)) el in
         let tl = length-those full (availableOf z) in
+        let ts = length-those left (availableOf z) in
         let n = length-take (z .na) (z .available) in
         let c = l .counts in
         record {
-          near = rw (kept-list stay (those left (availableOf z)) es) (picked-within left);
+          near = rw (kept-list stay (those left (availableOf z)) es) (record { inside = picked-within left; few = omega arith; short = geometry-in g (ready .shape) .pages-most });
           old = unavailable-within g xs z ready;
           new = rw (kept-list leave (those full (availableOf z)) el) (picked-within full);
           few = kept-inside stay (those left (availableOf z)) es;
@@ -105,7 +107,7 @@ module _ (g : Geometry) (xs : List ℕ) (z : Zones) (ready : Ready g xs z) where
           space = omega arith;
         }
 
-    module _ (ps : List Place) (ids : List ℕ) (ei : ids ≡ idsOf ps) (kept : Blocks) (ek : kept ≡ blocksOf (those (holdsBy xs (g .pages) ids (scanIn xs (g .pages) (listOf stay))) (unavailableOf z ++ listOf leave))) where
+    module _ (ps : List Place) (ids : List ℕ) (ei : ids ≡ idsOf ps) (kept : Blocks) (ek : kept ≡ blocksOf (those (holdsBy xs (g .pages) ids (idsIn (scanIn xs (g .pages) (listOf stay)))) (unavailableOf z ++ listOf leave))) where
       -- what is kept of the unavailable blocks and the leavers
       pub slide-kept : kept ≡ blocksOf (judged xs (g .pages) ps (scanIn xs (g .pages) (staying xs (g .pages) (availableOf z))) (unavailableOf z ++ leaving xs (g .pages) (availableOf z)))
       slide-kept =
@@ -113,7 +115,7 @@ module _ (g : Geometry) (xs : List ℕ) (z : Zones) (ready : Ready g xs z) where
 
       pub slide-room : kept .n ≤ 126
       slide-room =
-          let q = holdsBy xs (g .pages) ids (scanIn xs (g .pages) (listOf stay)) in
+          let q = holdsBy xs (g .pages) ids (idsIn (scanIn xs (g .pages) (listOf stay))) in
           let c = kept-count kept (those q (unavailableOf z ++ listOf leave)) ek in
           let t = length-those q (unavailableOf z ++ listOf leave) in
           let a = length-append (unavailableOf z) (listOf leave) in

@@ -1,15 +1,18 @@
 // Scan order, and what a checkpoint moves between the zones.
 // An identifier is compared before a page is classed, so a page is classed only where its answer counts.
+// A slide first lists the identifiers on whole pages of the near blocks, those still available: 3 of at most 64 pages, so at most 192. From
+// then on it compares numbers from spare areas, and a page of another block is classed, once, where its identifier is wanted.
 ghost use mathlib.Core.Path.{_≡_};
 ghost use mathlib.Core.Bool.{true, not};
-ghost use Prim.Native.Nat.{_+_, _*_, _≤_, _<_};
+ghost use Prim.Native.Nat.{ℕ, _+_, _*_, _≤_, _<_};
 ghost use mathlib.Core.List.{_++_};
-ghost use lib.ListN.{length};
+ghost use lib.ListN.{length, take};
+ghost use lib.Dec.{eqb};
 ghost use Rattle.model.specs.Lists.{any, those};
 ghost use Rattle.model.specs.Zones.{entryAt, wholeFrom, scanIn, scanOf, onPages, isFull, staying, leaving, slide, unavailableOf};
 ghost use Rattle.flash.specs.Ranges.{Within};
 ghost use Rattle.blocks.specs.Blocks.{blocksOf, listOf};
-ghost use Rattle.zones.specs.Judging.{wantedId, wantedBy, holdsBy, Ready, Room, Leaving};
+ghost use Rattle.zones.specs.Judging.{idAt, idsIn, wantedId, wantedBy, holdsBy, Ready, Near, Room, Leaving};
 use blocks::Blocks;
 use model::Geometry;
 use model::Place;
@@ -75,10 +78,73 @@ pub fn id_scanned(g: Geometry, array: &[u8], z: Zones, id: u32) -> bool
     id_in(array, pages, &a[..na], id)
 }
 
-/// Whether an identifier is of an active transaction or on a whole page of the near blocks.
-fn is_wanted(array: &[u8], pages: usize, ids: [u32; 8], near: &[u8], id: u32) -> bool
-    requires { ⌜ Within (length (now array)) pages (now near) ⌝ }
-    ensures { λ r. ⌜ r ≡ wantedId ids (scanIn (now (array .entry)) pages (now (near .entry))) id ⌝ }
+/// The identifier of page k, or 0 where the page is not whole.
+fn id_at(array: &[u8], k: usize) -> u32
+    requires { ⌜ k * 528 + 528 ≤ length (now array) ⌝ }
+    ensures { λ r. ⌜ r ≡ idAt (now (array .entry)) k ⌝ }
+{
+    let s = flash::spare_at(array, k);
+    if s.id == 0 {
+        return 0;
+    }
+    if !flash::is_whole(array, k) {
+        return 0;
+    }
+    s.id
+}
+
+/// Lists the identifiers other than 0 of the whole pages among some from page k on, behind the n already listed; returns how many are listed.
+fn list_ids(array: &[u8], k: usize, pages: usize, near: &mut [u32], n: usize) -> usize
+    requires { ⌜ (k * 528 + pages * 528 ≤ length (now array)) × (n + pages ≤ length (now near)) ⌝ }
+    ensures { λ r. ⌜ (take r (now (near .exit)) ≡ take n (now (near .entry)) ++ idsIn (wholeFrom (now (array .entry)) k pages)) × (r ≤ n + pages) ⌝ }
+{
+    let mut m = n;
+    let mut i: usize = 0;
+    while i < pages {
+        let id = id_at(array, k + i);
+        if id == 0 {
+            i += 1;
+            continue;
+        }
+        near[m] = id;
+        m += 1;
+        i += 1;
+    }
+    m
+}
+
+/// Lists the identifiers other than 0 of the whole pages of the near blocks; returns how many are listed.
+fn list_near(array: &[u8], pages: usize, bs: &[u8], near: &mut [u32]) -> usize
+    requires { ⌜ Near (now array) pages (now bs) × (length (now near) ≡ 192) ⌝ }
+    ensures { λ r. ⌜ (take r (now (near .exit)) ≡ idsIn (scanIn (now (array .entry)) pages (now (bs .entry)))) × (r ≤ 192) ⌝ }
+{
+    let mut n: usize = 0;
+    let mut i: usize = 0;
+    while i < bs.len() {
+        let b = bs[i] as usize;
+        n = list_ids(array, b * pages, pages, near, n);
+        i += 1;
+    }
+    n
+}
+
+/// Whether an identifier is among the near ones.
+fn is_near(near: &[u32], id: u32) -> bool
+    ensures { λ r. ⌜ r ≡ any (λ (x : ℕ). eqb x id) (now (near .entry)) ⌝ }
+{
+    let mut i: usize = 0;
+    while i < near.len() {
+        if near[i] == id {
+            return true;
+        }
+        i += 1;
+    }
+    false
+}
+
+/// Whether an identifier is of an active transaction or among the near ones.
+fn is_wanted(ids: [u32; 8], near: &[u32], id: u32) -> bool
+    ensures { λ r. ⌜ r ≡ wantedId ids (now (near .entry)) id ⌝ }
 {
     if id == 0 {
         return false;
@@ -86,33 +152,30 @@ fn is_wanted(array: &[u8], pages: usize, ids: [u32; 8], near: &[u8], id: u32) ->
     if places::is_active_in(ids, id) {
         return true;
     }
-    id_in(array, pages, near, id)
+    is_near(near, id)
 }
 
 /// Whether page k is whole and wanted.
-fn page_wanted(array: &[u8], pages: usize, ids: [u32; 8], near: &[u8], k: usize) -> bool
-    requires { ⌜ Within (length (now array)) pages (now near) × (k * 528 + 528 ≤ length (now array)) ⌝ }
-    ensures { λ r. ⌜ r ≡ any (wantedBy ids (scanIn (now (array .entry)) pages (now (near .entry)))) (entryAt (now (array .entry)) k) ⌝ }
+fn page_wanted(array: &[u8], ids: [u32; 8], near: &[u32], k: usize) -> bool
+    requires { ⌜ k * 528 + 528 ≤ length (now array) ⌝ }
+    ensures { λ r. ⌜ r ≡ any (wantedBy ids (now (near .entry))) (entryAt (now (array .entry)) k) ⌝ }
 {
     let s = flash::spare_at(array, k);
-    if s.id == 0 {
+    if !is_wanted(ids, near, s.id) {
         return false;
     }
-    if !flash::is_whole(array, k) {
-        return false;
-    }
-    is_wanted(array, pages, ids, near, s.id)
+    flash::is_whole(array, k)
 }
 
 /// Whether a whole page of block b is wanted.
-fn holds_wanted(array: &[u8], pages: usize, ids: [u32; 8], near: &[u8], b: usize) -> bool
-    requires { ⌜ Within (length (now array)) pages (now near) × (b * pages * 528 + pages * 528 ≤ length (now array)) ⌝ }
-    ensures { λ r. ⌜ r ≡ holdsBy (now (array .entry)) pages ids (scanIn (now (array .entry)) pages (now (near .entry))) b ⌝ }
+fn holds_wanted(array: &[u8], pages: usize, ids: [u32; 8], near: &[u32], b: usize) -> bool
+    requires { ⌜ b * pages * 528 + pages * 528 ≤ length (now array) ⌝ }
+    ensures { λ r. ⌜ r ≡ holdsBy (now (array .entry)) pages ids (now (near .entry)) b ⌝ }
 {
     let first = b * pages;
     let mut i: usize = 0;
     while i < pages {
-        if page_wanted(array, pages, ids, near, first + i) {
+        if page_wanted(array, ids, near, first + i) {
             return true;
         }
         i += 1;
@@ -121,9 +184,9 @@ fn holds_wanted(array: &[u8], pages: usize, ids: [u32; 8], near: &[u8], b: usize
 }
 
 /// A list with those of some blocks behind it that have a whole page which is wanted.
-fn judge(out: Blocks, array: &[u8], pages: usize, ids: [u32; 8], near: &[u8], bs: &[u8]) -> Blocks
-    requires { ⌜ Room (now array) pages (now near) (now bs) out ⌝ }
-    ensures { λ r. ⌜ r ≡ blocksOf (listOf out ++ those (holdsBy (now (array .entry)) pages ids (scanIn (now (array .entry)) pages (now (near .entry)))) (now (bs .entry))) ⌝ }
+fn judge(out: Blocks, array: &[u8], pages: usize, ids: [u32; 8], near: &[u32], bs: &[u8]) -> Blocks
+    requires { ⌜ Room (now array) pages (now bs) out ⌝ }
+    ensures { λ r. ⌜ r ≡ blocksOf (listOf out ++ those (holdsBy (now (array .entry)) pages ids (now (near .entry))) (now (bs .entry))) ⌝ }
 {
     let mut kept = out;
     let mut i: usize = 0;
@@ -139,17 +202,18 @@ fn judge(out: Blocks, array: &[u8], pages: usize, ids: [u32; 8], near: &[u8], bs
     kept
 }
 
-/// Whether block b has no clean page.
+/// Whether block b has no clean page: its last one is not erased.
 fn is_full(array: &[u8], pages: usize, b: usize) -> bool
-    requires { ⌜ b * pages * 528 + pages * 528 ≤ length (now array) ⌝ }
+    requires { ⌜ (b * pages * 528 + pages * 528 ≤ length (now array)) × (1 ≤ pages) ⌝ }
     ensures { λ r. ⌜ r ≡ isFull (now (array .entry)) pages b ⌝ }
 {
-    flash::used_in(array, pages, b) == pages
+    let last = b * pages + (pages - 1);
+    !flash::is_blank(array, last)
 }
 
 /// Those of some blocks that are not full.
 fn staying(array: &[u8], pages: usize, bs: &[u8]) -> Blocks
-    requires { ⌜ Within (length (now array)) pages (now bs) ⌝ }
+    requires { ⌜ Within (length (now array)) pages (now bs) × (1 ≤ pages) ⌝ }
     ensures { λ r. ⌜ r ≡ blocksOf (staying (now (array .entry)) pages (now (bs .entry))) ⌝ }
 {
     let mut out = blocks::none();
@@ -168,7 +232,7 @@ fn staying(array: &[u8], pages: usize, bs: &[u8]) -> Blocks
 
 /// Those of some blocks that are full.
 fn leaving(array: &[u8], pages: usize, bs: &[u8]) -> Blocks
-    requires { ⌜ Within (length (now array)) pages (now bs) ⌝ }
+    requires { ⌜ Within (length (now array)) pages (now bs) × (1 ≤ pages) ⌝ }
     ensures { λ r. ⌜ r ≡ blocksOf (leaving (now (array .entry)) pages (now (bs .entry))) ⌝ }
 {
     let mut out = blocks::none();
@@ -195,10 +259,12 @@ fn judged(
     leave: Blocks,
 ) -> Blocks
     requires { ⌜ Leaving (now array) pages z stay leave ⌝ }
-    ensures { λ r. ⌜ r ≡ blocksOf (those (holdsBy (now (array .entry)) pages ids (scanIn (now (array .entry)) pages (listOf stay))) (unavailableOf z ++ listOf leave)) ⌝ }
+    ensures { λ r. ⌜ r ≡ blocksOf (those (holdsBy (now (array .entry)) pages ids (idsIn (scanIn (now (array .entry)) pages (listOf stay)))) (unavailableOf z ++ listOf leave)) ⌝ }
 {
-    let near = stay.list;
-    let n = stay.n;
+    let s = stay.list;
+    let ns = stay.n;
+    let mut near = [0u32; 192];
+    let n = list_near(array, pages, &s[..ns], &mut near);
     let u = z.unavailable;
     let nu = z.nu as usize;
     let l = leave.list;

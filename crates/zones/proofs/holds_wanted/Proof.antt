@@ -3,7 +3,7 @@ use mathlib.Core.Path.{_≡_, sym, _∙_}
 use Prim.Native.Nat.{_+_, _-_, _*_, _≤_}
 use native.Mathlib.Omega.{arith}
 use Rattle.model.specs.Lists.{any}
-use Rattle.model.specs.Zones.{wholeFrom, scanIn}
+use Rattle.model.specs.Zones.{wholeFrom}
 use Rattle.zones.specs.Judging.{wantedBy, holdsBy}
 use Rattle.zones.proofs.Pages.{pages-start, pages-hit, pages-more, pages-end}
 use Rattle.zones.proofs.holds_wanted.Statement.{statement}
@@ -12,7 +12,7 @@ use Rattle.zones.proofs.holds_wanted.Tie as tie
 abbrev Inv-loop : tie.InvT-loop
 Inv-loop array pages ids near b first i₀ i =
     (i ≤ pages)
-    × (holdsBy array pages ids (scanIn array pages near) b ≡ any (wantedBy ids (scanIn array pages near)) (wholeFrom array (b * pages + i) (pages - i)))
+    × (holdsBy array pages ids near b ≡ any (wantedBy ids near) (wholeFrom array (b * pages + i) (pages - i)))
 
 abbrev μ-loop : tie.MeasureT-loop
 μ-loop array pages ids near b first i₀ i = pages - i
@@ -28,7 +28,7 @@ add-page-wanted : tie.Need-add-page-wanted Inv-loop μ-loop
 add-page-wanted c = omega arith
 
 page-wanted-requires : tie.Need-page-wanted-requires Inv-loop μ-loop
-page-wanted-requires c κs = (c .before .before .before .before .pre .0, omega arith)
+page-wanted-requires c κs = omega arith
 
 returns : tie.Need-returns Inv-loop μ-loop
 returns c = sym (pages-hit _ _ _ _ _ (c .before .before .before .loop .inv .1) (omega arith) (sym (c .before .page-wanted .ensures) ∙ c .if1 .taken))

@@ -17,13 +17,13 @@ returns-2 : tie.Need-returns-2
 unfolding wantedId
 returns-2 c = simp (ne-eqb _ _ (c .before .before .if1 .left), sym (c .before .is-active-in .ensures) ∙ c .if2 .taken)
 
-id-in-requires : tie.Need-id-in-requires
-id-in-requires c κs = search needs
+is-near-requires : tie.Need-is-near-requires
+is-near-requires c κs = search needs
 
 returns-3 : tie.Need-returns-3
 unfolding wantedId
-returns-3 c = simp (ne-eqb _ _ (c .before .before .before .if1 .left), sym (c .before .before .is-active-in .ensures) ∙ c .before .if2 .left, c .id-in .ensures)
+returns-3 c = simp (ne-eqb _ _ (c .before .before .before .if1 .left), sym (c .before .before .is-active-in .ensures) ∙ c .before .if2 .left, c .is-near .ensures)
 
 pub is-wanted-spec : {M : Type 1} → statement M
 is-wanted-spec =
-    tie.close (tie.spec returns is-active-in-requires returns-2 id-in-requires returns-3)
+    tie.close (tie.spec returns is-active-in-requires returns-2 is-near-requires returns-3)

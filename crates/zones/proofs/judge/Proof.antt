@@ -6,7 +6,6 @@ use native.Mathlib.Omega.{arith}
 use lib.ListN.{length, take}
 use borrow.Author.Tests.{not-true, not-false}
 use Rattle.model.specs.Lists.{those}
-use Rattle.model.specs.Zones.{scanIn}
 use Rattle.blocks.specs.Blocks.{blocksOf, listOf}
 use Rattle.blocks.proofs.Kept.{kept-count}
 use Rattle.zones.specs.Judging.{holdsBy}
@@ -15,7 +14,7 @@ use Rattle.zones.proofs.judge.Statement.{statement}
 use Rattle.zones.proofs.judge.Tie as tie
 
 abbrev Inv-loop : tie.InvT-loop
-Inv-loop array pages ids near bs kept₀ i₀ kept i = (i ≤ length bs) × (kept ≡ blocksOf (listOf kept₀ ++ those (holdsBy array pages ids (scanIn array pages near)) (take i bs)))
+Inv-loop array pages ids near bs kept₀ i₀ kept i = (i ≤ length bs) × (kept ≡ blocksOf (listOf kept₀ ++ those (holdsBy array pages ids near) (take i bs)))
 
 abbrev μ-loop : tie.MeasureT-loop
 μ-loop array pages ids near bs kept₀ i₀ kept i = length bs - i
@@ -33,8 +32,7 @@ cast-holds-wanted c = omega (arith, c .shared-slice-known4 .given (c .before .be
 holds-wanted-requires : tie.Need-holds-wanted-requires Inv-loop μ-loop
 holds-wanted-requires c κs =
     let l = c .before .before in
-    let p = l .before .before .before .before .pre in
-    (p .nearby, p .listed .each (l .loop .i) (c .before .loop-test .taken))
+    l .before .before .before .before .pre .listed .each (l .loop .i) (c .before .loop-test .taken)
 
 add-i : tie.Need-add-i Inv-loop μ-loop
 add-i c = omega arith
@@ -46,14 +44,14 @@ loop-again : tie.Need-loop-again Inv-loop μ-loop
 loop-again c =
     let l = c .before .before .before .before in
     let a = l .before .before .before .before .args in
-    (omega arith, picks-pass (holdsBy (a .array .now) (a .pages) (a .ids) (scanIn (a .array .now) (a .pages) (a .near .now))) (listOf (a .out)) (a .bs .now) (l .loop .i) _ (l .loop .inv .1) (omega arith) (sym (c .before .holds-wanted .ensures) ∙ not-true _ (c .if1 .taken)))
+    (omega arith, picks-pass (holdsBy (a .array .now) (a .pages) (a .ids) (a .near .now)) (listOf (a .out)) (a .bs .now) (l .loop .i) _ (l .loop .inv .1) (omega arith) (sym (c .before .holds-wanted .ensures) ∙ not-true _ (c .if1 .taken)))
 
 with-requires : tie.Need-with-requires Inv-loop μ-loop
 with-requires c κs =
     let l = c .before .before .before .before in
     let s = l .before .before .before .before in
     let a = s .args in
-    let n = picks-few (holdsBy (a .array .now) (a .pages) (a .ids) (scanIn (a .array .now) (a .pages) (a .near .now))) (listOf (a .out)) (a .bs .now) (l .loop .i) _ (l .loop .inv .1) (omega arith) in
+    let n = picks-few (holdsBy (a .array .now) (a .pages) (a .ids) (a .near .now)) (listOf (a .out)) (a .bs .now) (l .loop .i) _ (l .loop .inv .1) (omega arith) in
     let k = kept-count (a .out) (listOf (a .out)) (s .pre .kept) in
     let b = s .pre .space in
     omega arith
@@ -68,13 +66,13 @@ loop-again-2 : tie.Need-loop-again-2 Inv-loop μ-loop
 loop-again-2 c =
     let l = c .before .before .before .before .before in
     let a = l .before .before .before .before .args in
-    (omega arith, picks-more (holdsBy (a .array .now) (a .pages) (a .ids) (scanIn (a .array .now) (a .pages) (a .near .now))) (listOf (a .out)) (a .bs .now) (l .loop .i) _ (l .loop .inv .1) _ (c .with .ensures) (omega arith) (sym (c .before .before .holds-wanted .ensures) ∙ not-false _ (c .before .if1 .left)))
+    (omega arith, picks-more (holdsBy (a .array .now) (a .pages) (a .ids) (a .near .now)) (listOf (a .out)) (a .bs .now) (l .loop .i) _ (l .loop .inv .1) _ (c .with .ensures) (omega arith) (sym (c .before .before .holds-wanted .ensures) ∙ not-false _ (c .before .if1 .left)))
 
 returns : tie.Need-returns Inv-loop μ-loop
 returns c =
     let l = c .before in
     let a = l .before .before .before .before .args in
-    picks-end (holdsBy (a .array .now) (a .pages) (a .ids) (scanIn (a .array .now) (a .pages) (a .near .now))) (listOf (a .out)) (a .bs .now) (l .loop .i) _ (l .loop .inv .1) (omega arith)
+    picks-end (holdsBy (a .array .now) (a .pages) (a .ids) (a .near .now)) (listOf (a .out)) (a .bs .now) (l .loop .i) _ (l .loop .inv .1) (omega arith)
 
 pub judge-spec : {M : Type 1} → statement M
 judge-spec =

@@ -5,6 +5,7 @@ use lib.ListN.{length}
 use lib.Seq.{length-take-le}
 use borrow.Author.Needs.{needs}
 use Rattle.model.specs.Zones.{slide}
+use Rattle.arrays.specs.Ranges.{geometry-in}
 use Rattle.refill.proofs.Taking.{kept-lists, kept-taken, refilled-available, refilled-free, refilled-zones}
 use Rattle.zones.proofs.Listed.{ready-listed, available-within}
 use Rattle.zones.proofs.Sliding.{slide-fits, slide-leaving, slide-kept, slide-room}
@@ -35,7 +36,10 @@ slice-aggregate-staying c =
     sym (length-take-le (s .args .z .na) (s .args .z .available) (omega arith))
 
 staying-requires : tie.Need-staying-requires
-staying-requires c κs = available-within _ _ _ (c .before .before .before .before .before .before .pre)
+staying-requires c κs =
+    let p = c .before .before .before .before .before .before .pre in
+    let l = geometry-in _ (p .shape) .pages-least in
+    (available-within _ _ _ p, omega arith)
 
 array-share-prefix-a-2 : tie.Need-array-share-prefix-a-2
 array-share-prefix-a-2 c =
@@ -52,7 +56,10 @@ slice-aggregate-leaving c =
     sym (length-take-le (s .args .z .na) (s .args .z .available) (omega arith))
 
 leaving-requires : tie.Need-leaving-requires
-leaving-requires c κs = available-within _ _ _ (c .before .before .before .before .before .before .before .before .pre)
+leaving-requires c κs =
+    let p = c .before .before .before .before .before .before .before .before .pre in
+    let l = geometry-in _ (p .shape) .pages-least in
+    (available-within _ _ _ p, omega arith)
 
 judged-requires : tie.Need-judged-requires
 judged-requires c κs =

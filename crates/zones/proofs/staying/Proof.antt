@@ -35,7 +35,8 @@ cast-is-full c = omega (arith, c .shared-slice-known3 .given (c .before .before 
 is-full-requires : tie.Need-is-full-requires Inv-loop μ-loop
 is-full-requires c κs =
     let l = c .before .before in
-    l .before .before .before .before .pre .each (l .loop .i) (c .before .loop-test .taken)
+    let p = l .before .before .before .before .pre in
+    (p .0 .each (l .loop .i) (c .before .loop-test .taken), p .1)
 
 add-i : tie.Need-add-i Inv-loop μ-loop
 add-i c = omega arith
@@ -55,7 +56,7 @@ with-requires c κs =
     let l = c .before .before .before .before in
     let a = l .before .before .before .before .args in
     let n = picks-few (λ (b : ℕ). not (isFull (a .array .now) (a .pages) b)) [] (a .bs .now) (l .loop .i) _ (l .loop .inv .1) (omega arith) in
-    let b = l .before .before .before .before .pre .few in
+    let b = l .before .before .before .before .pre .0 .few in
     omega arith
 
 add-i-2 : tie.Need-add-i-2 Inv-loop μ-loop
