@@ -1,7 +1,7 @@
 // Links the proved archive. BOKUHIRA_LIB names a folder that has it; else the repository's target/staticlib, where `rt staticlib` writes it.
 use std::{env, path::PathBuf, process::Command};
 
-const NAME: &str = "capi";
+const NAME: &str = "bokuhira";
 
 fn main() {
     println!("cargo:rerun-if-env-changed=BOKUHIRA_LIB");
