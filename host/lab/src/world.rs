@@ -1,0 +1,138 @@
+//! A flash with the layer's buffers, the book beside it, and the cut that fell last. Every call goes through the proved library.
+use crate::{
+    book::Book,
+    cut::{due_bits, turn, Cut, How},
+    pages::{Op, Pages},
+    view::View,
+};
+use bokuhira::{Answer, Call, Geometry, State, Store, DATA, HOLD, PAGE, STATE, UNMAPPED};
+use std::ops::Range;
+
+#[derive(Clone)]
+pub struct World {
+    pub geometry: Geometry,
+    pub store: Store,
+    pub pages: Pages,
+    /// No state: power was cut, or the array is new to the layer.
+    pub lost: bool,
+    /// Something was written by hand, past the layer.
+    pub spoilt: bool,
+    /// None where no format of this session made the array.
+    pub book: Option<Book>,
+    pub cut: Option<Cut>,
+}
+
+impl World {
+    /// A flash that the layer has not seen: all zero bytes.
+    pub fn blank(g: Geometry) -> World {
+        World::import(g, vec![0; g.array_len()])
+    }
+
+    /// A flash with these bytes, which must be as many as the geometry says.
+    pub fn import(g: Geometry, array: Vec<u8>) -> World {
+        let pages = Pages::of(&array);
+        World { geometry: g, store: Store { array, ..Store::blank(g) }, pages, lost: true, spoilt: false, book: None, cut: None }
+    }
+
+    pub fn state(&self) -> Option<State> {
+        if self.lost {
+            None
+        } else {
+            State::decode(&self.store.state)
+        }
+    }
+
+    pub fn view(&self) -> View {
+        View::of(self.geometry, &self.store.array, &self.pages.list, self.state().as_ref())
+    }
+
+    /// The pages of a block, none where there is no such block.
+    pub fn block(&self, b: usize) -> Option<Range<usize>> {
+        let p = self.geometry.pages as usize;
+        (b < self.geometry.blocks as usize).then(|| b * p..(b + 1) * p)
+    }
+
+    pub fn page_bytes(&self, k: usize) -> &[u8] {
+        &self.store.array[k * PAGE..(k + 1) * PAGE]
+    }
+
+    pub fn data(&self, k: usize) -> &[u8] {
+        &self.page_bytes(k)[..DATA]
+    }
+
+    /// Whether the map points to this page; nobody knows while the state is lost.
+    pub fn is_mapped(&self, k: usize) -> bool {
+        let page = &self.pages.list[k];
+        !self.lost && self.store.map.get(page.lpn as usize).is_some_and(|e| *e as usize == k)
+    }
+
+    pub fn mapped_count(&self) -> usize {
+        self.store.map.iter().filter(|e| **e != UNMAPPED).count()
+    }
+
+    /// Carries out one call.
+    pub fn call(&mut self, call: &Call) -> (Answer, Op) {
+        let answer = self.store.call(call);
+        match (call, answer) {
+            (_, Answer::Refused(_)) => (),
+            (Call::Format(g), _) => {
+                (self.geometry, self.lost, self.spoilt, self.cut) = (*g, false, false, None);
+                self.book = Some(Book::fresh(g.logical));
+            }
+            (Call::Recover(g), _) => (self.geometry, self.lost) = (*g, false),
+            _ => (),
+        }
+        if let Some(book) = &mut self.book {
+            book.answered(call, answer);
+        }
+        (answer, self.pages.follow(&self.store.array, self.geometry))
+    }
+
+    /// The power fails in this call, or between two. The state is lost with it.
+    pub fn cut(&mut self, call: Option<&Call>, how: How, what: &str) {
+        let mut after = self.store.clone();
+        let answer = call.map(|c| after.call(c));
+        let due = due_bits(&self.store.array, &after.array);
+        let op = self.operation(&due);
+        let from = due.first().map_or(0, |bit| *bit as usize / 8 / PAGE * PAGE);
+        let until = due.last().map_or(0, |bit| (*bit as usize / 8 / PAGE + 1) * PAGE);
+        let before = self.store.array[from..until].to_vec();
+        let turned: Vec<bool> = (0..due.len()).map(|i| how.turns(i, due.len())).collect();
+        due.iter().zip(&turned).filter(|(_, t)| **t).for_each(|(bit, _)| turn(&mut self.store.array, *bit));
+        let complete = matches!(op, Op::Program(_)) && turned.iter().all(|t| *t);
+        match (call, answer) {
+            (Some(Call::Format(_)), Some(Answer::Done | Answer::More)) => self.book = None,
+            _ => self.book.iter_mut().for_each(|b| b.cut(call, complete)),
+        }
+        self.pages.follow(&self.store.array, self.geometry);
+        self.cut = Some(Cut { what: what.into(), op, due, turned, before, from });
+        self.dark(0, 0);
+    }
+
+    /// What due bits of one operation say about it: a program turns ones, an erase zeros.
+    pub fn operation(&self, due: &[u32]) -> Op {
+        match due.first() {
+            None => Op::Nothing,
+            Some(bit) if self.store.array[*bit as usize / 8] >> (bit % 8) & 1 == 1 => Op::Program(*bit as usize / 8 / PAGE),
+            Some(bit) => Op::Erase(*bit as usize / 8 / PAGE / self.geometry.pages as usize),
+        }
+    }
+
+    /// State, map and hold are lost: these numbers stand in them.
+    pub fn dark(&mut self, map: u16, hold: u8) {
+        self.store.map = vec![map; self.geometry.logical as usize];
+        self.store.hold = vec![hold; HOLD];
+        self.store.state = vec![0; STATE];
+        self.lost = true;
+        if let Some(book) = &mut self.book {
+            book.open.clear();
+        }
+    }
+
+    /// Bytes of the array written by hand.
+    pub fn spoil(&mut self, at: usize, bytes: &[u8]) {
+        self.store.array[at..at + bytes.len()].copy_from_slice(bytes);
+        self.pages.follow(&self.store.array, self.geometry);
+        self.spoilt = true;
+    }
+}
