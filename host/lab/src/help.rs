@@ -40,7 +40,7 @@ pub const GROUPS: [(&str, &[Word]); 4] = [
     (
         "Looking",
         &[
-            word("show", "show zones|block N|page N|map|changes|book|checkpoints|cut|cut bits|all", "prints it ('help pages' explains the words)"),
+            word("show", "show zones|block N|page N|map|changes|transactions|book|checkpoints|cut|cut bits|all", "prints it ('help pages' explains the words)"),
             word("draw", "draw FILE.svg or draw FILE.html", "the flash as a picture; the page has a slider through all steps up to now"),
             word("report", "report [FILE]", "what the program report prints for this flash; with a file, compared with it"),
             word("geometry", "geometry", "the size of this flash"),
@@ -105,8 +105,8 @@ pub const TOPICS: [(&str, &str); 6] = [
          \x20 bad page     a scanned whole page that makes recover answer 4\n\
          \x20 holds        the map points to this page: a read gives it\n\
          In the front, map and zone pages belong to the newest complete checkpoint, to an older one, or to\n\
-         none that is complete. After a cut the state is lost; the zones are then those of the newest\n\
-         complete checkpoint, as a recovery will take them.",
+         none that is complete. After a cut the state is lost; zones and 'holds' are then shown as a recovery\n\
+         will find them.",
     ),
     (
         "data",

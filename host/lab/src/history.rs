@@ -1,4 +1,97 @@
-use crate::world::World;
+//! The steps of a session as a page shows them: for each, only what looks other than before.
+use crate::{
+    look::{edges, kind_of, state_line, words, zone_css, Words, ERASED},
+    world::World,
+};
+use bokuhira::Geometry;
+use std::collections::HashMap;
+
+/// How a page looks: the index of its kind, its edges, and its words.
+#[derive(Clone, Copy, PartialEq, Eq)]
+pub struct Cell {
+    pub kind: u8,
+    pub edges: u8,
+    pub words: u32,
+}
+
+/// A run of pages that look alike from now on.
+pub struct Run {
+    pub first: usize,
+    pub pages: usize,
+    pub cell: Cell,
+}
+
+pub struct Step {
+    pub text: String,
+    pub said: String,
+    pub state: String,
+    pub runs: Vec<Run>,
+    /// Blocks whose zone changed: block, class, words.
+    pub zones: Vec<(usize, &'static str, String)>,
+    pub next: Option<usize>,
+    pub pointer: u8,
+}
+
+/// The steps since the flash had this geometry.
 #[derive(Default)]
-pub struct History;
-impl History { pub fn record(&mut self, _w: &World, _t: &str, _s: &str) {} }
+pub struct History {
+    pub geometry: Option<Geometry>,
+    pub steps: Vec<Step>,
+    pub words: Vec<Words>,
+    known: HashMap<Words, u32>,
+    cells: Vec<Cell>,
+    stamps: Vec<u64>,
+    zones: Vec<(&'static str, String)>,
+}
+
+const CLEAN: Cell = Cell { kind: ERASED, edges: 0, words: 0 };
+
+impl History {
+    /// Adds a step: this world, after this command, which said that. A flash of another size starts the history anew.
+    pub fn record(&mut self, world: &World, text: &str, said: &str) {
+        let g = world.geometry;
+        if self.geometry.is_none_or(|old| (old.blocks, old.pages) != (g.blocks, g.pages)) {
+            let n = world.pages.list.len();
+            *self = History { geometry: Some(g), cells: vec![CLEAN; n], stamps: vec![u64::MAX; n], zones: vec![("", String::new()); g.blocks as usize], ..History::default() };
+            self.words.push(Words::default());
+            self.known.insert(Words::default(), 0);
+        }
+        let view = world.view();
+        let mut runs: Vec<Run> = Vec::new();
+        for (k, page) in world.pages.list.iter().enumerate() {
+            let same = self.stamps[k] == world.pages.stamps[k];
+            let cell = Cell {
+                kind: kind_of(page, view.fates[k], view.holds[k]),
+                edges: edges(&view, &world.pages.list, k),
+                words: if same { self.cells[k].words } else { self.word(words(world, k)) },
+            };
+            self.stamps[k] = world.pages.stamps[k];
+            if cell == self.cells[k] {
+                continue;
+            }
+            self.cells[k] = cell;
+            match runs.last_mut() {
+                Some(run) if run.first + run.pages == k && run.cell == cell => run.pages += 1,
+                _ => runs.push(Run { first: k, pages: 1, cell }),
+            }
+        }
+        let mut zones = Vec::new();
+        for (b, zone) in view.zones.iter().enumerate() {
+            let order = view.available.iter().position(|x| *x as usize == b).filter(|_| b > 1);
+            let now = (zone_css(*zone).0, order.map_or(zone.word().into(), |i| format!("available {}", i + 1)));
+            if self.zones[b] != now {
+                self.zones[b] = now.clone();
+                zones.push((b, now.0, now.1));
+            }
+        }
+        self.steps.push(Step { text: text.into(), said: said.into(), state: state_line(world), runs, zones, next: view.next, pointer: view.pointer });
+    }
+
+    fn word(&mut self, words: Words) -> u32 {
+        let next = self.words.len() as u32;
+        *self.known.entry(words).or_insert_with_key(|w| {
+            self.words.push(w.clone());
+            next
+        })
+    }
+}

@@ -5,6 +5,7 @@ mod cut;
 mod draw;
 mod help;
 mod history;
+mod look;
 mod pages;
 mod script;
 mod session;

@@ -1,6 +1,7 @@
 //! One page as a class reads it: erased, whole or torn, and the fields of its spare area; and all pages of an array, classed again
 //! only where the bytes changed.
 use bokuhira::{Geometry, DATA, PAGE};
+use std::sync::atomic::{AtomicU64, Ordering};
 
 #[derive(Clone, Copy, PartialEq, Eq, Debug)]
 pub enum Class {
@@ -51,11 +52,6 @@ impl Page {
         self.class == Class::Whole
     }
 
-    /// A data page with a count: the mark of its transaction.
-    pub fn is_mark(&self) -> bool {
-        self.is_whole() && self.kind == 0 && self.cnt != 0
-    }
-
     pub fn kind_word(&self) -> String {
         match self.kind {
             0 => "data".into(),
@@ -93,16 +89,24 @@ pub enum Op {
     Erase(usize),
 }
 
-/// The pages of an array, kept beside a copy of its bytes.
+/// A number that was not given before.
+fn stamp() -> u64 {
+    static LAST: AtomicU64 = AtomicU64::new(0);
+    LAST.fetch_add(1, Ordering::Relaxed)
+}
+
+/// The pages of an array, kept beside a copy of its bytes. A page whose bytes change gets a new stamp.
 #[derive(Clone)]
 pub struct Pages {
     bytes: Vec<u8>,
     pub list: Vec<Page>,
+    pub stamps: Vec<u64>,
 }
 
 impl Pages {
     pub fn of(array: &[u8]) -> Pages {
-        Pages { bytes: array.to_vec(), list: array.chunks_exact(PAGE).map(Page::read).collect() }
+        let list: Vec<Page> = array.chunks_exact(PAGE).map(Page::read).collect();
+        Pages { bytes: array.to_vec(), stamps: list.iter().map(|_| stamp()).collect(), list }
     }
 
     /// Follows the array, and gives what was done to it since: a call does at most one program or erase.
@@ -115,7 +119,7 @@ impl Pages {
         for (k, (old, new)) in self.bytes.chunks_exact_mut(PAGE).zip(array.chunks_exact(PAGE)).enumerate() {
             if old != new {
                 old.copy_from_slice(new);
-                self.list[k] = Page::read(new);
+                (self.list[k], self.stamps[k]) = (Page::read(new), stamp());
                 op = if self.list[k].class == Class::Erased { Op::Erase(k / g.pages as usize) } else { Op::Program(k) };
             }
         }

@@ -4,14 +4,14 @@ use crate::{
     draw,
     help,
     history::History,
-    pages::{Op, Pages},
+    pages::Op,
     script::{parse, Command, Line},
     show::{answer_words, call_line, page_name, plural, show},
     sweep::sweep,
     trace,
     world::World,
 };
-use bokuhira::{Answer, Call, Geometry, Refusal, Store, PAGE};
+use bokuhira::{Answer, Call, Geometry, Refusal, PAGE};
 use std::io::Write;
 
 #[derive(Default)]
@@ -52,14 +52,17 @@ impl Session {
                 self.record(words, "");
             }
             Command::Call(call) => {
-                self.flash_for(call);
+                self.flash_for(call)?;
                 let said = self.call(text, call, line.expected.as_deref())?;
                 say(&format!("{said}\n"))?;
             }
             Command::FormatToTheEnd(g) => say(&format!("{}\n", self.format(text, *g, line.expected.as_deref())?))?,
             Command::UntilDone(call) => {
-                self.flash_for(call);
+                self.flash_for(call)?;
                 let name = text.strip_prefix("until-done").unwrap_or(text).trim();
+                if self.kept.is_some() {
+                    return Err("between keep and back each call starts anew: until-done has no end there".into());
+                }
                 loop {
                     let (said, answer) = self.stride(name, call)?;
                     say(&format!("{said}\n"))?;
@@ -78,7 +81,7 @@ impl Session {
                 self.record(text, "the state is lost");
             }
             Command::Blank(g) => {
-                self.world = Some(World::blank(*g));
+                self.world = Some(blank(*g)?);
                 say(&format!("{text}: a new flash of zero bytes\n"))?;
                 self.record(text, "a new flash of zero bytes");
             }
@@ -146,10 +149,11 @@ impl Session {
     }
 
     /// The first format or recover of a session takes a new flash of its geometry.
-    fn flash_for(&mut self, call: &Call) {
+    fn flash_for(&mut self, call: &Call) -> Result<(), String> {
         if let (None, Call::Format(g) | Call::Recover(g)) = (&self.world, call) {
-            self.world = Some(World::blank(*g));
+            self.world = Some(blank(*g)?);
         }
+        Ok(())
     }
 
     fn record(&mut self, text: &str, said: &str) {
@@ -193,7 +197,7 @@ impl Session {
 
     fn format(&mut self, text: &str, g: Geometry, expected: Option<&str>) -> Result<String, String> {
         let call = Call::Format(g);
-        self.flash_for(&call);
+        self.flash_for(&call)?;
         let before = self.world_mut()?.clone();
         let world = self.world_mut()?;
         let mut strides = 1;
@@ -265,6 +269,14 @@ impl Session {
     }
 }
 
+/// A new flash. The layer refuses other sizes than 8 to 128 blocks of 8 to 64 pages, but below two blocks there is no front to show.
+fn blank(g: Geometry) -> Result<World, String> {
+    if g.blocks < 2 || g.pages == 0 {
+        return Err(format!("a flash of {} blocks of {} pages cannot be had: 8 to 128 blocks of 8 to 64 pages are allowed", g.blocks, g.pages));
+    }
+    Ok(World::blank(g))
+}
+
 fn write(file: &str, bytes: &[u8]) -> Result<(), String> {
     std::fs::write(file, bytes).map_err(|e| format!("'{file}' cannot be written: {e}"))
 }
@@ -312,10 +324,10 @@ fn with_lines(bytes: &[u8]) -> Option<(Geometry, &[u8])> {
 
 /// What the program report prints: a recovery of this array, on a copy.
 pub fn report(world: &World) -> String {
-    let mut copy = World { store: Store { array: world.store.array.clone(), ..Store::blank(world.geometry) }, pages: Pages::of(&[]), ..world.clone() };
+    let mut copy = World::import(world.geometry, world.store.array.clone());
     let (answer, _) = copy.call(&Call::Recover(world.geometry));
-    match (answer, copy.state()) {
-        (Answer::Done, Some(s)) => {
+    match copy.state() {
+        Some(s) if answer == Answer::Done => {
             let z = &s.zones;
             let (a, u, f) = (trace::commas(&z.available), trace::commas(&z.unavailable), trace::commas(&z.free));
             format!("answer=0\ncheckpoint={}\nversion={}\navailable={a}\nunavailable={u}\nfree={f}\nmapped={}\n", s.checkpoint, s.version, copy.mapped_count())

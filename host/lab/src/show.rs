@@ -22,11 +22,17 @@ pub fn data_words(data: &[u8]) -> String {
             format!("{short:?}")
         }
         _ if data.iter().all(|b| *b == 0xFF) => "all 0xFF".into(),
-        _ => match (0..256).find(|s| data == seeded(*s)) {
+        _ => match seed_of(data) {
             Some(seed) => format!("seed {seed}"),
             None => format!("bytes {:02X} {:02X} {:02X} {:02X} ..", data[0], data[1], data[2], data[3]),
         },
     }
+}
+
+/// The seed below 256 that gives these bytes. Byte 0 is 31 times the seed, and 31 × 223 is 1 modulo 256.
+fn seed_of(data: &[u8]) -> Option<u64> {
+    let seed = data[0].wrapping_mul(223) as u64;
+    (data == seeded(seed)).then_some(seed)
 }
 
 pub fn answer_words(answer: Answer) -> String {
@@ -107,6 +113,7 @@ pub fn show(world: &World, what: &Show) -> Result<String, String> {
         Show::Page(k) => Err(format!("there is no page {k}: pages are 0 to {}", world.pages.list.len() - 1)),
         Show::Map => Ok(map(world)),
         Show::Changes => Ok(changes(world)),
+        Show::Transactions => Ok(transactions(world, &world.view())),
         Show::Book => Ok(book(world)),
         Show::Checkpoints => Ok(checkpoints(world, &world.view())),
         Show::Cut | Show::CutBits => match &world.cut {
@@ -125,6 +132,7 @@ fn all(world: &World) -> String {
             text += &block(world, &view, b);
         }
     }
+    text += &transactions(world, &view);
     text += &map(world);
     text += &changes(world);
     text += &book(world);
@@ -193,7 +201,7 @@ fn fate_words(world: &World, view: &View, k: usize) -> String {
     let p = &world.pages.list[k];
     match (p.class, view.fates[k]) {
         (Class::Torn, _) => format!("belongs to nobody (Zeros {}, counted {})", p.zeros, p.counted),
-        (_, fate) if world.is_mapped(k) && fate != Fate::Nobody => format!("{}, holds", fate.word()),
+        (_, fate) if view.holds[k] && fate != Fate::Nobody => format!("{}, holds", fate.word()),
         (_, fate) => fate.word().into(),
     }
 }
@@ -273,6 +281,38 @@ fn changes(world: &World) -> String {
     }
     if none {
         text += "  none\n";
+    }
+    text
+}
+
+/// Each transaction in scan order: how many whole pages it has there, what its mark says, and what follows from the two.
+fn transactions(world: &World, view: &View) -> String {
+    let mut text = String::from("transactions in scan order\n");
+    let mut found: Vec<(u32, Vec<usize>)> = Vec::new();
+    let mut lone = 0;
+    for k in view.scan().filter(|k| world.pages.list[*k].is_whole()) {
+        let id = world.pages.list[k].id;
+        match found.iter_mut().find(|(i, _)| *i == id) {
+            _ if id == 0 => lone += 1,
+            Some((_, pages)) => pages.push(k),
+            None => found.push((id, vec![k])),
+        }
+    }
+    for (id, pages) in &found {
+        let mark = pages.iter().map(|k| &world.pages.list[*k]).find(|p| p.cnt != 0);
+        let counted = plural(pages.len(), "page");
+        let verdict = match (mark, view.fates[pages[0]]) {
+            (_, Fate::Active) => "active".into(),
+            (None, fate) => format!("no mark: {}", fate.word()),
+            (Some(m), fate) => format!("its mark says {} (version {}): {}", m.cnt, m.ver, fate.word()),
+        };
+        text += &format!("  identifier {id}: {counted} counted, {verdict}; in {}\n", pages.iter().map(usize::to_string).collect::<Vec<_>>().join(" "));
+    }
+    if found.is_empty() && lone == 0 {
+        text += "  none\n";
+    }
+    if lone > 0 {
+        text += &format!("  {}, each a transaction by itself\n", plural(lone, "lone page"));
     }
     text
 }

@@ -85,6 +85,8 @@ pub struct View {
     pub unavailable: Vec<u8>,
     pub pointer: u8,
     pub fates: Vec<Fate>,
+    /// Of each page, whether the map points to it.
+    pub holds: Vec<bool>,
     pub checkpoints: Vec<Checkpoint>,
     /// Which of them recovery takes.
     pub newest: Option<usize>,
@@ -93,8 +95,8 @@ pub struct View {
 }
 
 impl View {
-    /// Over the pages of `array`; with the state where there is one, else with the zones of the newest complete checkpoint.
-    pub fn of(g: Geometry, array: &[u8], pages: &[Page], state: Option<&State>) -> View {
+    /// Over the pages of `array` and a map; with the state where there is one, else with the zones of the newest complete checkpoint.
+    pub fn of(g: Geometry, array: &[u8], pages: &[Page], map: &[u16], state: Option<&State>) -> View {
         let blocks = g.blocks as usize;
         let checkpoints = checkpoints(g, array, pages);
         let newest = (0..checkpoints.len()).rev().max_by_key(|i| checkpoints[*i].number);
@@ -109,9 +111,17 @@ impl View {
             list.iter().filter(|b| (**b as usize) < blocks).for_each(|b| zones[*b as usize] = zone);
         }
         zones.iter_mut().take(2).for_each(|z| *z = Zone::Front);
-        let mut view = View { geometry: g, zones, available, unavailable, pointer, fates: vec![Fate::Nobody; pages.len()], checkpoints, newest, next: None };
+        let mut holds = vec![false; pages.len()];
+        for (lpn, k) in map.iter().enumerate() {
+            if pages.get(*k as usize).is_some_and(|p| p.is_whole() && p.lpn as usize == lpn) {
+                holds[*k as usize] = true;
+            }
+        }
+        let fates = vec![Fate::Nobody; pages.len()];
+        let mut view = View { geometry: g, zones, available, unavailable, pointer, fates, holds, checkpoints, newest, next: None };
         view.judge(pages, state);
-        view.next = state.and_then(|_| view.available.iter().find_map(|b| (view.clean(pages, *b as usize) > 0).then(|| (*b as usize + 1) * g.pages as usize - view.clean(pages, *b as usize))));
+        let with_room = state.and_then(|_| view.available.iter().map(|b| *b as usize).find(|b| view.clean(pages, *b) > 0));
+        view.next = with_room.map(|b| view.block(b).end - view.clean(pages, b));
         view
     }
 

@@ -43,7 +43,14 @@ impl World {
     }
 
     pub fn view(&self) -> View {
-        View::of(self.geometry, &self.store.array, &self.pages.list, self.state().as_ref())
+        let found = if self.lost { self.recovered() } else { None };
+        View::of(self.geometry, &self.store.array, &self.pages.list, found.as_ref().map_or(&self.store.map, |s| &s.map), self.state().as_ref())
+    }
+
+    /// What a recovery makes of the array, on a copy; none where it refuses.
+    pub fn recovered(&self) -> Option<Store> {
+        let mut copy = Store { array: self.store.array.clone(), ..Store::blank(self.geometry) };
+        (copy.recover(self.geometry) == Answer::Done).then_some(copy)
     }
 
     /// The pages of a block, none where there is no such block.
@@ -58,12 +65,6 @@ impl World {
 
     pub fn data(&self, k: usize) -> &[u8] {
         &self.page_bytes(k)[..DATA]
-    }
-
-    /// Whether the map points to this page; nobody knows while the state is lost.
-    pub fn is_mapped(&self, k: usize) -> bool {
-        let page = &self.pages.list[k];
-        !self.lost && self.store.map.get(page.lpn as usize).is_some_and(|e| *e as usize == k)
     }
 
     pub fn mapped_count(&self) -> usize {
