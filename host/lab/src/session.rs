@@ -51,20 +51,15 @@ impl Session {
                 say(&format!("\n-- {words}\n"))?;
                 self.record(words, "");
             }
-            Command::Call(call) => {
-                self.flash_for(call)?;
-                let said = self.call(text, call, line.expected.as_deref())?;
-                say(&format!("{said}\n"))?;
-            }
-            Command::FormatToTheEnd(g) => say(&format!("{}\n", self.format(text, *g, line.expected.as_deref())?))?,
+            Command::Call(call) => say(&format!("{}\n", self.with_flash(call, |s| s.call(text, call, line.expected.as_deref()))?))?,
+            Command::FormatToTheEnd(g) => say(&format!("{}\n", self.with_flash(&Call::Format(*g), |s| s.format(text, *g, line.expected.as_deref()))?))?,
             Command::UntilDone(call) => {
-                self.flash_for(call)?;
                 let name = text.strip_prefix("until-done").unwrap_or(text).trim();
                 if self.kept.is_some() {
                     return Err("between keep and back each call starts anew: until-done has no end there".into());
                 }
                 loop {
-                    let (said, answer) = self.stride(name, call)?;
+                    let (said, answer) = self.with_flash(call, |s| s.stride(name, call))?;
                     say(&format!("{said}\n"))?;
                     if answer != Answer::More {
                         match &line.expected {
@@ -148,12 +143,17 @@ impl Session {
         self.world.as_mut().ok_or_else(|| NO_FLASH.into())
     }
 
-    /// The first format or recover of a session takes a new flash of its geometry.
-    fn flash_for(&mut self, call: &Call) -> Result<(), String> {
-        if let (None, Call::Format(g) | Call::Recover(g)) = (&self.world, call) {
-            self.world = Some(blank(*g)?);
+    /// The first format or recover of a session takes a new flash of its geometry; where that is refused, there is still none.
+    fn with_flash<T>(&mut self, call: &Call, run: impl FnOnce(&mut Session) -> T) -> T {
+        let first = self.world.is_none();
+        if let (true, Call::Format(g) | Call::Recover(g)) = (first, call) {
+            self.world = blank(*g).ok();
         }
-        Ok(())
+        let done = run(self);
+        if first && self.world.as_ref().is_some_and(|w| w.lost) {
+            self.world = None;
+        }
+        done
     }
 
     fn record(&mut self, text: &str, said: &str) {
@@ -181,7 +181,7 @@ impl Session {
         }
         match before {
             Some(before) if kept => self.world = Some(before),
-            _ => self.record(text, said.strip_prefix(text).map_or(said.as_str(), |s| s.trim_start_matches(": "))),
+            _ => self.record(text, said_of(text, &said)),
         }
         Ok(said)
     }
@@ -191,13 +191,12 @@ impl Session {
         let world = self.world_mut()?;
         let (answer, op) = world.call(call);
         let said = call_line(text, world, call, answer, op);
-        self.record(text, said.strip_prefix(text).map_or(said.as_str(), |s| s.trim_start_matches(": ")));
+        self.record(text, said_of(text, &said));
         Ok((said, answer))
     }
 
     fn format(&mut self, text: &str, g: Geometry, expected: Option<&str>) -> Result<String, String> {
         let call = Call::Format(g);
-        self.flash_for(&call)?;
         let before = self.world_mut()?.clone();
         let world = self.world_mut()?;
         let mut strides = 1;
@@ -212,7 +211,11 @@ impl Session {
         }
         let said = match answer {
             Answer::Done => format!("{}; {}, {} blocks of {} pages, {} logical pages", answer_words(answer), plural(strides, "stride"), g.blocks, g.pages, g.logical),
-            _ => answer_words(answer),
+            _ => {
+                let said = call_line(text, world, &call, answer, Op::Nothing);
+                self.record(text, said_of(text, &said));
+                return Ok(said);
+            }
         };
         self.record(text, &said);
         Ok(format!("{text}: {said}"))
@@ -267,6 +270,11 @@ impl Session {
             _ => unreachable!("no word that spoils"),
         }
     }
+}
+
+/// What a line says behind its command.
+fn said_of<'a>(text: &str, line: &'a str) -> &'a str {
+    line.strip_prefix(text).map_or(line, |rest| rest.trim_start_matches(": "))
 }
 
 /// A new flash. The layer refuses other sizes than 8 to 128 blocks of 8 to 64 pages, but below two blocks there is no front to show.

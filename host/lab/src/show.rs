@@ -82,6 +82,11 @@ pub fn call_line(text: &str, world: &World, call: &Call, answer: Answer, op: Op)
                 parts.push(format!("checkpoint {}, last version {}, {} mapped", s.checkpoint, s.version, plural(world.mapped_count(), "logical page")));
             }
         }
+        (_, Answer::More) if op == Op::Nothing => parts.push("a block erased that was so before".into()),
+        (Call::Format(g) | Call::Recover(g), Answer::Refused(r)) if r.0 == 1 && *g != world.geometry => {
+            let w = world.geometry;
+            parts.push(format!("this flash has {} blocks of {} pages and {} logical pages; 'blank' takes another", w.blocks, w.pages, w.logical));
+        }
         (_, Answer::Refused(r)) if r.0 == 1 && world.lost && !matches!(call, Call::Format(_) | Call::Recover(_)) => parts.push("there is no state: recover first".into()),
         _ => (),
     }
@@ -312,7 +317,7 @@ fn transactions(world: &World, view: &View) -> String {
         text += "  none\n";
     }
     if lone > 0 {
-        text += &format!("  {}, each a transaction by itself\n", plural(lone, "lone page"));
+        text += &format!("  {}, {}a transaction by itself\n", plural(lone, "lone page"), if lone == 1 { "" } else { "each " });
     }
     text
 }
@@ -342,7 +347,7 @@ fn book(world: &World) -> String {
         text += &format!("  LPN {lpn:4}  book {said:<26}  read {read}{}\n", if differs { "  DIFFERS" } else { "" });
     }
     if never > 0 {
-        text += &format!("  {} never written\n", plural(never, "more logical page"));
+        text += &format!("  {} never written\n", plural(never, if never < book.pages.len() { "more logical page" } else { "logical page" }));
     }
     for c in &book.open {
         let writes: Vec<String> = c.writes.iter().map(|(lpn, data)| format!("LPN {lpn} {}", data_words(data))).collect();

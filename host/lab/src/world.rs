@@ -5,7 +5,7 @@ use crate::{
     pages::{Op, Pages},
     view::View,
 };
-use bokuhira::{Answer, Call, Geometry, State, Store, DATA, HOLD, PAGE, STATE, UNMAPPED};
+use bokuhira::{Answer, Call, Geometry, Kind, State, Store, DATA, HOLD, PAGE, STATE, UNMAPPED};
 use std::ops::Range;
 
 #[derive(Clone)]
@@ -119,8 +119,11 @@ impl World {
         }
     }
 
-    /// State, map and hold are lost: these numbers stand in them.
+    /// State, map and hold are lost: these numbers stand in them. A format that was under way is not finished, so it has no book.
     pub fn dark(&mut self, map: u16, hold: u8) {
+        if self.state().is_some_and(|s| s.work.kind == Kind::Format) {
+            self.book = None;
+        }
         self.store.map = vec![map; self.geometry.logical as usize];
         self.store.hold = vec![hold; HOLD];
         self.store.state = vec![0; STATE];
@@ -135,5 +138,101 @@ impl World {
         self.store.array[at..at + bytes.len()].copy_from_slice(bytes);
         self.pages.follow(&self.store.array, self.geometry);
         self.spoilt = true;
+    }
+}
+
+#[cfg(test)]
+mod tests {
+    use super::*;
+    use crate::{cut::Amount, script::seeded, view::Fate};
+    use bokuhira::UNMAPPED;
+
+    /// Numbers that look drawn by lot.
+    struct Lot(u64);
+
+    impl Lot {
+        fn below(&mut self, n: u64) -> u64 {
+            self.0 = self.0.wrapping_mul(6364136223846793005).wrapping_add(1442695040888963407);
+            (self.0 >> 33) % n
+        }
+    }
+
+    fn some_call(lot: &mut Lot, logical: u16) -> Call {
+        let (id, lpn) = (lot.below(40) as u32 + 1, lot.below(logical as u64) as u16);
+        let data = seeded(lot.below(256));
+        match lot.below(16) {
+            0..=2 => Call::Begin(id),
+            3..=7 => Call::Write { id, lpn, data },
+            8 => Call::Lone { lpn, data },
+            9..=11 => Call::Commit(id),
+            12 => Call::Abort(id),
+            13 | 14 => Call::Checkpoint,
+            _ => Call::Reclaim,
+        }
+    }
+
+    /// What the view says of the pages, carried out by hand on the newest checkpoint's map, is the map that the proved recovery makes.
+    fn redo(world: &World) -> Vec<u16> {
+        let view = world.view();
+        let c = &view.checkpoints[view.newest.unwrap()];
+        let entry = |lpn: usize| {
+            let at = (c.first + lpn / 256) * PAGE + 2 * (lpn % 256);
+            u16::from_le_bytes([world.store.array[at], world.store.array[at + 1]])
+        };
+        let mut map: Vec<u16> = (0..world.geometry.logical as usize).map(entry).collect();
+        let pages = &world.pages.list;
+        let committed: Vec<usize> = view.scan().filter(|k| view.fates[*k] == Fate::Committed).collect();
+        let mut marks: Vec<usize> = committed.iter().copied().filter(|k| pages[*k].cnt != 0).collect();
+        marks.sort_by_key(|k| pages[*k].ver);
+        for mark in marks {
+            for k in committed.iter().filter(|k| **k == mark || (pages[mark].id != 0 && pages[**k].id == pages[mark].id)) {
+                map[pages[*k].lpn as usize] = *k as u16;
+            }
+        }
+        map
+    }
+
+    #[test]
+    fn the_view_and_the_book_agree_with_the_proved_recovery() {
+        let mut cuts = 0;
+        for seed in 0..60 {
+            let mut lot = Lot(seed);
+            let g = Geometry::new(8 + lot.below(4) as u16, 8 + lot.below(3) as u16, 10 + lot.below(7) as u16);
+            let mut world = World::blank(g);
+            while world.call(&Call::Format(g)).0 == Answer::More {}
+            let mut under_way = Call::Read(0);
+            for _ in 0..400 {
+                let call = if matches!(under_way, Call::Read(_)) { some_call(&mut lot, g.logical) } else { under_way.clone() };
+                if lot.below(25) > 0 {
+                    let (answer, _) = world.call(&call);
+                    under_way = if answer == Answer::More { call } else { Call::Read(0) };
+                    continue;
+                }
+                let how = [How::None, How::All, How::First(Amount::Percent(50)), How::ButLast, How::Every(3, 1)][lot.below(5) as usize];
+                world.cut(Some(&call), how, "");
+                let seen = redo(&world);
+                let holds = world.view().holds;
+                assert_eq!(world.call(&Call::Recover(g)).0, Answer::Done);
+                assert_eq!(world.store.map, seen);
+                assert_eq!(holds, world.view().holds);
+                let book = world.book.clone().unwrap();
+                for (lpn, said) in book.pages.iter().enumerate() {
+                    assert_eq!(said.as_deref(), world.store.read(lpn as u16).ok());
+                    assert_eq!(said.is_some(), world.store.map[lpn] != UNMAPPED);
+                }
+                under_way = Call::Read(0);
+                cuts += 1;
+            }
+        }
+        assert!(cuts > 500, "{cuts} cuts");
+    }
+
+    #[test]
+    fn a_format_that_was_cut_has_no_book() {
+        let g = Geometry::new(8, 8, 16);
+        let mut world = World::blank(g);
+        assert_eq!(world.call(&Call::Format(g)).0, Answer::More);
+        world.cut(None, How::None, "");
+        assert!(world.book.is_none());
     }
 }
