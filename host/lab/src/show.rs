@@ -7,7 +7,7 @@ use crate::{
     view::{Fate, View, Zone},
     world::World,
 };
-use bokuhira::{Answer, Call, DATA, PAGE, UNMAPPED};
+use bokuhira::{Answer, Call, Kind, DATA, PAGE, UNMAPPED};
 
 /// A page's data in a few words: a text, a seed, or its first bytes.
 pub fn data_words(data: &[u8]) -> String {
@@ -150,6 +150,7 @@ fn all(world: &World) -> String {
 fn zones(world: &World, view: &View) -> String {
     let state = world.state();
     let source = match (&state, view.newest) {
+        (Some(s), _) if s.work.kind == Kind::Format => " (a format is under way: there are none yet)",
         (Some(_), _) => "",
         (None, Some(_)) => " (the state is lost: as the newest checkpoint has them)",
         (None, None) => " (no state and no complete checkpoint: nobody knows)",

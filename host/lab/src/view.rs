@@ -1,7 +1,7 @@
 //! The array as a recovery sees it: the zone of each block, the scan order, the checkpoints in the front, and what became of each
 //! page's transaction.
 use crate::pages::{Class, Page};
-use bokuhira::{Geometry, State, PAGE};
+use bokuhira::{Geometry, Kind, State, PAGE};
 use std::collections::{HashMap, HashSet};
 
 #[derive(Clone, Copy, PartialEq, Eq, Debug)]
@@ -11,7 +11,7 @@ pub enum Zone {
     Unavailable,
     Checkpointed,
     Free,
-    /// Neither a state nor a checkpoint says.
+    /// Neither a state nor a checkpoint says, or a format is under way.
     Unknown,
 }
 
@@ -102,7 +102,7 @@ impl View {
         let newest = (0..checkpoints.len()).rev().max_by_key(|i| checkpoints[*i].number);
         let from = newest.map(|i| &checkpoints[i]);
         let (available, unavailable, free, pointer, known) = match (state, from) {
-            (Some(s), _) => (s.zones.available.clone(), s.zones.unavailable.clone(), s.zones.free.clone(), s.zones.pointer, true),
+            (Some(s), _) => (s.zones.available.clone(), s.zones.unavailable.clone(), s.zones.free.clone(), s.zones.pointer, s.work.kind != Kind::Format),
             (None, Some(c)) => (c.available.clone(), c.unavailable.clone(), c.free.clone(), c.pointer, true),
             (None, None) => (vec![], vec![], vec![], 2, false),
         };
