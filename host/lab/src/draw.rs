@@ -12,6 +12,15 @@ const STYLE: &str = include_str!("lab.css");
 const PAGE_STYLE: &str = include_str!("page.css");
 const PAGE_SCRIPT: &str = include_str!("page.js");
 
+const CONTROLS: &str = "\
+<input type=\"range\" id=\"slider\" min=\"0\" value=\"0\" aria-label=\"step\"><span id=\"count\"></span>
+<button id=\"first\" title=\"first step (Home)\">|◀</button><button id=\"back\" title=\"one step back (left arrow)\">◀</button>
+<button id=\"on\" title=\"one step on (right arrow)\">▶</button><button id=\"last\" title=\"last step (End)\">▶|</button><button id=\"play\">play</button>
+<button id=\"smaller\" title=\"smaller\">−</button><button id=\"fit\">fit</button><button id=\"larger\" title=\"larger\">+</button>";
+const CAPTION: &str = "\
+<div id=\"caption\"><span id=\"text\"></span><span id=\"said\"></span><div id=\"state\"></div></div>
+<div id=\"tell\">Point at a page to read it; click to keep it and to mark the pages of its change.</div>";
+
 /// How much a cell has room for.
 #[derive(Clone, Copy, PartialEq, Eq)]
 enum Detail {
@@ -48,6 +57,11 @@ impl Layout {
         Layout { geometry, detail, cell, column: cell.0 + gap, left, top }
     }
 
+    /// Whether columns are too narrow for the words of their zones.
+    fn short(&self) -> bool {
+        matches!(self.detail, Detail::Short | Detail::Letter)
+    }
+
     fn blocks(&self) -> usize {
         self.geometry.blocks as usize
     }
@@ -82,12 +96,19 @@ impl Layout {
     fn cell_markup(&self) -> String {
         let (w, h) = self.cell;
         let text = match self.detail {
-            Detail::TwoLines => "<text class=\"l\" x=\"5\" y=\"23\" font-size=\"16\">{letter}</text><text x=\"24\" y=\"14\" font-size=\"12\">{one}</text><text x=\"24\" y=\"29\" font-size=\"11.5\">{two}</text>".into(),
-            Detail::OneLine => "<text class=\"l\" x=\"4\" y=\"14\" font-size=\"13\">{letter}</text><text x=\"19\" y=\"13\" font-size=\"9.5\">{one} {two}</text>".into(),
+            Detail::TwoLines => "<text class=\"l\" x=\"5\" y=\"23\" font-size=\"16\">{letter}</text>\
+                <text x=\"24\" y=\"14\" font-size=\"12\">{one}</text><text x=\"24\" y=\"29\" font-size=\"11.5\">{two}</text>"
+                .into(),
+            Detail::OneLine => {
+                "<text class=\"l\" x=\"4\" y=\"14\" font-size=\"13\">{letter}</text><text x=\"19\" y=\"13\" font-size=\"9.5\">{one} {two}</text>".into()
+            }
             Detail::Short => "<text class=\"l\" x=\"4\" y=\"15\" font-size=\"13\">{letter}</text><text x=\"18\" y=\"14\" font-size=\"10.5\">{nr}</text>".into(),
             Detail::Letter => format!("<text class=\"l\" x=\"{}\" y=\"16\" font-size=\"15\" text-anchor=\"middle\">{{letter}}</text>", w / 2.0),
         };
-        format!("<g class=\"cell {{css}}\" id=\"p{{k}}\" transform=\"translate({{x}},{{y}})\"><title>{{tell}}</title><rect class=\"r\" width=\"{w}\" height=\"{h}\"/><use href=\"#e{{edges}}\"/>{text}</g>")
+        format!(
+            "<g class=\"cell {{css}}\" id=\"p{{k}}\" transform=\"translate({{x}},{{y}})\"><title>{{tell}}</title>\
+             <rect class=\"r\" width=\"{w}\" height=\"{h}\"/><use href=\"#e{{edges}}\"/>{text}</g>"
+        )
     }
 }
 
@@ -121,20 +142,24 @@ fn cell(layout: &Layout, template: &str, k: usize, cell: Cell, words: &Words) ->
     fill(template, &fields)
 }
 
+/// A pattern of one tile: its size, its ground, and what is drawn on it.
+fn pattern(id: &str, (w, h): (u8, u8), turned: u8, ground: &str, drawn: &str) -> String {
+    format!(
+        "<pattern id=\"{id}\" width=\"{w}\" height=\"{h}\" patternUnits=\"userSpaceOnUse\" patternTransform=\"rotate({turned})\">\
+         <rect width=\"{w}\" height=\"{h}\" fill=\"{ground}\"/>{drawn}</pattern>"
+    )
+}
+
 /// Patterns and outlines.
 fn definitions(layout: &Layout) -> String {
     let (w, h) = layout.cell;
-    let mut text = format!(
-        "<defs>\
-         <pattern id=\"grid\" width=\"{w}\" height=\"{h}\" patternUnits=\"userSpaceOnUse\" y=\"{}\"><path d=\"M0 {h}H{w}\" stroke=\"#bbb\" stroke-width=\".6\"/></pattern>\
-         <pattern id=\"pa\" width=\"8\" height=\"8\" patternUnits=\"userSpaceOnUse\" patternTransform=\"rotate(45)\"><rect width=\"8\" height=\"8\" fill=\"#dcebff\"/><rect width=\"3\" height=\"8\" fill=\"#5b93e0\"/></pattern>\
-         <pattern id=\"px\" width=\"7\" height=\"7\" patternUnits=\"userSpaceOnUse\"><rect width=\"7\" height=\"7\" fill=\"#fff0e0\"/><path d=\"M0 0L7 7M7 0L0 7\" stroke=\"#d9741a\" stroke-width=\"1.1\"/></pattern>\
-         <pattern id=\"pt\" width=\"8\" height=\"6\" patternUnits=\"userSpaceOnUse\"><rect width=\"8\" height=\"6\" fill=\"#fff\"/><path d=\"M0 5L4 1L8 5\" stroke=\"#d03030\" stroke-width=\"1.1\" fill=\"none\"/></pattern>\
-         <pattern id=\"pp\" width=\"6\" height=\"6\" patternUnits=\"userSpaceOnUse\"><rect width=\"6\" height=\"6\" fill=\"#fff\"/><rect width=\"6\" height=\"2.4\" fill=\"#b493dd\"/></pattern>\
-         <pattern id=\"pu\" width=\"6\" height=\"6\" patternUnits=\"userSpaceOnUse\" patternTransform=\"rotate(45)\"><rect width=\"6\" height=\"6\" fill=\"#fff\"/><rect width=\"3\" height=\"6\" fill=\"#f0c050\"/></pattern>\
-         <g id=\"e0\"/>",
-        layout.top
-    );
+    let mut text = format!("<defs><pattern id=\"grid\" width=\"{w}\" height=\"{h}\" patternUnits=\"userSpaceOnUse\" y=\"{}\">", layout.top);
+    text += &format!("<path d=\"M0 {h}H{w}\" stroke=\"#bbb\" stroke-width=\".6\"/></pattern><g id=\"e0\"/>");
+    text += &pattern("pa", (8, 8), 45, "#dcebff", "<rect width=\"3\" height=\"8\" fill=\"#5b93e0\"/>");
+    text += &pattern("px", (7, 7), 0, "#fff0e0", "<path d=\"M0 0L7 7M7 0L0 7\" stroke=\"#d9741a\" stroke-width=\"1.1\"/>");
+    text += &pattern("pt", (8, 6), 0, "#fff", "<path d=\"M0 5L4 1L8 5\" stroke=\"#d03030\" stroke-width=\"1.1\" fill=\"none\"/>");
+    text += &pattern("pp", (6, 6), 0, "#fff", "<rect width=\"6\" height=\"2.4\" fill=\"#b493dd\"/>");
+    text += &pattern("pu", (6, 6), 45, "#fff", "<rect width=\"3\" height=\"6\" fill=\"#f0c050\"/>");
     for line in 1..4 {
         for edges in 0..4 {
             let upper = if edges & 1 == 1 { format!("M0 0H{w}") } else { String::new() };
@@ -147,15 +172,20 @@ fn definitions(layout: &Layout) -> String {
 
 /// A column: its background, and its head with number and zone.
 fn column(layout: &Layout, b: usize, css: &str, words: &str) -> String {
-    let (w, _) = layout.cell;
+    let ((w, _), middle) = (layout.cell, layout.cell.0 / 2.0);
     let x = layout.left + b as f64 * layout.column;
-    let head = match layout.detail {
-        Detail::Letter => format!("<rect class=\"head\" y=\"46\" width=\"{w}\" height=\"32\"/><text class=\"nr\" x=\"{0}\" y=\"59\" font-size=\"10\">{b}</text><text class=\"zone\" x=\"{0}\" y=\"73\" font-size=\"12\">{words}</text>", w / 2.0),
-        Detail::Short => format!("<rect class=\"head\" y=\"26\" width=\"{w}\" height=\"37\"/><text class=\"nr\" x=\"{0}\" y=\"41\" font-size=\"13\">{b}</text><text class=\"zone\" x=\"{0}\" y=\"57\" font-size=\"12\">{words}</text>", w / 2.0),
-        _ => format!("<rect class=\"head\" y=\"26\" width=\"{w}\" height=\"37\"/><text class=\"nr\" x=\"{0}\" y=\"41\" font-size=\"13\">block {b}</text><text class=\"zone\" x=\"{0}\" y=\"57\" font-size=\"12\">{words}</text>", w / 2.0),
+    let (head, height, name, size) = match layout.detail {
+        Detail::Letter => (layout.top - 34.0, 32.0, b.to_string(), 10),
+        Detail::Short => (layout.top - 40.0, 37.0, b.to_string(), 13),
+        _ => (layout.top - 40.0, 37.0, format!("block {b}"), 13),
     };
-    let size = format!("y=\"{}\" width=\"{w}\" height=\"{}\"", layout.top, layout.bottom() - layout.top);
-    format!("<g id=\"b{b}\" class=\"block {css}\" transform=\"translate({x},0)\">{head}<rect class=\"bg\" {size}/><rect class=\"grid\" {size}/></g>\n")
+    let (upper, lower) = (head + 0.4 * height, head + 0.84 * height);
+    let body = format!("y=\"{}\" width=\"{w}\" height=\"{}\"", layout.top, layout.bottom() - layout.top);
+    format!(
+        "<g id=\"b{b}\" class=\"block {css}\" transform=\"translate({x},0)\"><rect class=\"head\" y=\"{head}\" width=\"{w}\" height=\"{height}\"/>\
+         <text class=\"nr\" x=\"{middle}\" y=\"{upper}\" font-size=\"{size}\">{name}</text><text class=\"zone\" x=\"{middle}\" y=\"{lower}\" font-size=\"12\">{words}</text>\
+         <rect class=\"bg\" {body}/><rect class=\"grid\" {body}/></g>\n"
+    )
 }
 
 /// Numbers beside the rows and, where columns are narrow, above every eighth.
@@ -187,17 +217,21 @@ fn legend(layout: &Layout) -> String {
         text += &format!("<g transform=\"translate({x},{y})\">{sample}<text x=\"34\" y=\"12\" font-size=\"11\">{words}</text></g>");
         spot += 1;
     };
-    let sample = |css: &str, letter: &str| format!("<g class=\"cell {css}\"><rect class=\"r\" width=\"28\" height=\"16\"/><text class=\"l\" x=\"14\" y=\"13\" font-size=\"12\" text-anchor=\"middle\">{letter}</text></g>");
-    for i in [2, 3, 4, 5, 1, 6, 7, 8, 9, 11, 13] {
-        let kind = &KINDS[i];
-        let words = if i >= 9 { kind.words.replace("map page", "M map, Z zone:").replace(": of", " of").replace(":,", ":") } else { kind.words.into() };
-        put(&sample(kind.css, kind.letter), &words);
+    let sample = |css: &str, letter: &str| {
+        format!("<g class=\"cell {css}\"><rect class=\"r\" width=\"28\" height=\"16\"/><text class=\"l\" x=\"14\" y=\"13\" font-size=\"12\" text-anchor=\"middle\">{letter}</text></g>")
+    };
+    for kind in [2, 3, 4, 5, 1, 6, 7, 8].map(|i: usize| &KINDS[i]) {
+        put(&sample(kind.css, kind.letter), kind.words);
     }
+    put(&sample("n", "M"), "M map, Z zone of the newest checkpoint");
+    put(&sample("o", "M"), "M map, Z zone of an older checkpoint");
+    put(&sample("p", "M"), "M map, Z zone: checkpoint not complete");
     put("<rect width=\"28\" height=\"16\" fill=\"#fff\" stroke=\"#bbb\"/>", "erased");
-    for zone in [Zone::Front, Zone::Available, Zone::Unavailable, Zone::Checkpointed, Zone::Free] {
+    for zone in Zone::ALL.into_iter().filter(|z| *z != Zone::Unknown) {
         let (css, code) = zone_css(zone);
-        let code = if matches!(layout.detail, Detail::Letter | Detail::Short) { code } else { "" };
-        put(&format!("<g class=\"block {css}\"><rect class=\"head\" width=\"28\" height=\"16\"/><text x=\"14\" y=\"12\" font-size=\"11\">{code}</text></g>"), &format!("block: {}", zone.word()));
+        let code = if layout.short() { code } else { "" };
+        let head = format!("<rect class=\"head\" width=\"28\" height=\"16\"/><text x=\"14\" y=\"12\" font-size=\"11\">{code}</text>");
+        put(&format!("<g class=\"block {css}\">{head}</g>"), &format!("block: {}", zone.word()));
     }
     put("<path class=\"edge e2\" d=\"M2 1H26V15H2Z\"/>", "pages of one change or checkpoint");
     put("<path class=\"edge e3\" d=\"M2 1H26V15H2Z\"/>", "pages of an open change");
@@ -214,27 +248,23 @@ fn picture(layout: &Layout, title: &str, zones: &[(&str, String)], cells: &str, 
     let above = if title.is_empty() { 0.0 } else { 24.0 * layout.legend_scale() };
     let box_size = format!("y=\"{}\" width=\"{width}\" height=\"{}\"", -above, height + above);
     let narrow = if layout.detail == Detail::Letter { "narrow" } else { "" };
-    let mut text = format!("<svg xmlns=\"http://www.w3.org/2000/svg\" class=\"{narrow}\" viewBox=\"0 {} {width} {1}\" width=\"{width}\" height=\"{1}\">\n<style>{STYLE}</style>\n", -above, height + above);
+    let mut text = format!("<svg xmlns=\"http://www.w3.org/2000/svg\" class=\"{narrow}\" viewBox=\"0 {} {width} {}\">\n", -above, height + above);
+    text += &format!("<style>{STYLE}</style>\n");
     text += &definitions(layout);
     text += &format!("<rect {box_size} fill=\"#fff\"/><text x=\"12\" y=\"{}\" font-size=\"{}\">{}</text>", -above / 3.0, above / 1.8, escaped(title));
     for (b, (css, words)) in zones.iter().enumerate() {
         text += &column(layout, b, css, words);
     }
     text += &ticks(layout);
-    text += &format!("<path id=\"pointer\" class=\"pointer\" d=\"M{0} {y}H{1}L{2} {z}Z\" transform=\"translate({3},0)\"/>", w / 2.0 - 6.0, w / 2.0 + 6.0, w / 2.0, layout.left + pointer as f64 * layout.column, y = if layout.detail == Detail::Letter { 30 } else { 12 }, z = if layout.detail == Detail::Letter { 44 } else { 24 });
+    let (middle, tip) = (w / 2.0, if layout.detail == Detail::Letter { layout.top - 36.0 } else { layout.top - 42.0 });
+    let shape = format!("M{} {}H{}L{middle} {tip}Z", middle - 6.0, tip - 12.0, middle + 6.0);
+    text += &format!("<path id=\"pointer\" class=\"pointer\" d=\"{shape}\" transform=\"translate({},0)\"/>", layout.left + pointer as f64 * layout.column);
     text += &format!("<g id=\"cells\">{cells}</g>\n");
     let (x, y) = next.map_or((0.0, 0.0), |k| layout.at(k));
     let hidden = if next.is_some() { "" } else { " style=\"display:none\"" };
-    text += &format!("<rect id=\"next\" class=\"next\" x=\"1\" y=\"1\" width=\"{}\" height=\"{}\" transform=\"translate({x},{y})\"{hidden}/>", w - 2.0, h - 2.0);
+    text +=
+        &format!("<rect id=\"next\" class=\"next\" x=\"1\" y=\"1\" width=\"{}\" height=\"{}\" transform=\"translate({x},{y})\"{hidden}/>", w - 2.0, h - 2.0);
     text + &legend(layout) + "</svg>\n"
-}
-
-fn zone_words(layout: &Layout, css: &str, words: &str) -> String {
-    let zones = [Zone::Front, Zone::Available, Zone::Unavailable, Zone::Checkpointed, Zone::Free, Zone::Unknown];
-    match layout.detail {
-        Detail::Letter | Detail::Short => zones.iter().map(|z| zone_css(*z)).find(|(c, _)| *c == css).map_or(String::new(), |(_, code)| code.into()),
-        _ => words.into(),
-    }
 }
 
 /// The world as it stands, in one SVG.
@@ -250,7 +280,9 @@ pub fn svg(world: &World) -> String {
             cells += &cell(&layout, &template, k, run.cell, &history.words[run.cell.words as usize]);
         }
     }
-    let zones: Vec<(&str, String)> = step.zones.iter().map(|(_, css, words)| (*css, zone_words(&layout, css, words))).collect();
+    let view = world.view();
+    let words = |b: usize, words: &str| if layout.short() { zone_css(view.zones[b]).1.into() } else { words.to_string() };
+    let zones: Vec<(&str, String)> = step.zones.iter().map(|(b, css, text)| (*css, words(*b, text))).collect();
     picture(&layout, &state_line(world), &zones, &cells, step.next, step.pointer)
 }
 
@@ -275,33 +307,39 @@ fn step_json(step: &Step) -> String {
     let runs = list(step.runs.iter().map(|r| format!("[{},{},{},{},{}]", r.first, r.pages, r.cell.kind, r.cell.edges, r.cell.words)));
     let zones = list(step.zones.iter().map(|(b, css, words)| format!("[{b},\"{css}\",{}]", json(words))));
     let next = step.next.map_or(-1, |k| k as i64);
-    format!("{{\"text\":{},\"said\":{},\"state\":{},\"runs\":{runs},\"zones\":{zones},\"next\":{next},\"pointer\":{}}}", json(&step.text), json(&step.said), json(&step.state), step.pointer)
+    format!(
+        "{{\"text\":{},\"said\":{},\"state\":{},\"runs\":{runs},\"zones\":{zones},\"next\":{next},\"pointer\":{}}}",
+        json(&step.text),
+        json(&step.said),
+        json(&step.state),
+        step.pointer
+    )
 }
 
 /// Every step in one page.
 pub fn html(history: &History) -> Result<String, String> {
     let Some(g) = history.geometry else { return Err("there is nothing to draw yet: no step was made".into()) };
     let layout = Layout::of(g);
-    let short = matches!(layout.detail, Detail::Letter | Detail::Short);
+    let short = layout.short();
     let kinds = list(KINDS.iter().map(|k| format!("[\"{}\",\"{}\",{}]", k.css, k.letter, json(k.words))));
     let words = list(history.words.iter().map(|w| format!("[{},{},{},{}]", json(&w.one), json(&w.two), json(&w.tell), w.id)));
-    let zones = [Zone::Front, Zone::Available, Zone::Unavailable, Zone::Checkpointed, Zone::Free, Zone::Unknown];
-    let codes = zones.map(|z| zone_css(z)).map(|(css, code)| format!("\"{css}\":\"{code}\"")).join(",");
+    let codes = Zone::ALL.map(zone_css).map(|(css, code)| format!("\"{css}\":\"{code}\"")).join(",");
     let template = layout.cell_markup().replace('\\', "\\\\").replace('"', "\\\"").replace("</", "<\\/");
+    let steps = list(history.steps.iter().map(|s| format!("\n{}", step_json(s))));
+    let measures = [("left", layout.left), ("top", layout.top), ("column", layout.column), ("height", layout.cell.1), ("width", layout.width())];
+    let measures = measures.map(|(name, value)| format!("\"{name}\":{value}")).join(",");
     let data = format!(
-        "const lab={{\"blocks\":{},\"pages\":{},\"left\":{},\"top\":{},\"column\":{},\"height\":{},\"width\":{},\"short\":{short},\"cell\":\"{template}\",\"kinds\":{kinds},\"codes\":{{{codes}}},\n\"words\":{words},\n\"steps\":{}}};",
-        g.blocks, g.pages, layout.left, layout.top, layout.column, layout.cell.1, layout.width(), list(history.steps.iter().map(|s| format!("\n{}", step_json(s))))
+        "const lab={{\"blocks\":{},\"pages\":{},{measures},\"short\":{short},\"cell\":\"{template}\",\"kinds\":{kinds},\
+         \"codes\":{{{codes}}},\n\"words\":{words},\n\"steps\":{steps}}};",
+        g.blocks, g.pages
     );
     let zones: Vec<(&str, String)> = (0..layout.blocks()).map(|_| ("zq", String::new())).collect();
     let picture = picture(&layout, "", &zones, "", None, 2);
     let title = format!("The flash, step by step: {} blocks of {} pages, {} logical pages", g.blocks, g.pages, g.logical);
+    let wide = if short { "wide" } else { "" };
     Ok(format!(
-        "<!DOCTYPE html>\n<html lang=\"en\"><head><meta charset=\"utf-8\"><meta name=\"viewport\" content=\"width=device-width\"><title>{title}</title>\n<style>{PAGE_STYLE}</style></head>\n\
-         <body class=\"{}\"><header><div id=\"bar\"><b>{title}</b><input type=\"range\" id=\"slider\" min=\"0\" value=\"0\" aria-label=\"step\"><span id=\"count\"></span>\
-         <button id=\"first\" title=\"first step (Home)\">|◀</button><button id=\"back\" title=\"one step back (left arrow)\">◀</button><button id=\"on\" title=\"one step on (right arrow)\">▶</button><button id=\"last\" title=\"last step (End)\">▶|</button><button id=\"play\">play</button>\
-         <button id=\"smaller\" title=\"smaller\">−</button><button id=\"fit\">fit</button><button id=\"larger\" title=\"larger\">+</button></div>\n\
-         <div id=\"caption\"><span id=\"text\"></span><span id=\"said\"></span><div id=\"state\"></div></div><div id=\"tell\">Point at a page to read it; click to keep it and to mark the pages of its change.</div></header>\n\
-         <main><div id=\"picture\">{picture}</div><ol id=\"steps\"></ol></main>\n<script>{data}\n{PAGE_SCRIPT}</script></body></html>\n",
-        if short { "wide" } else { "" }
+        "<!DOCTYPE html>\n<html lang=\"en\"><head><meta charset=\"utf-8\"><meta name=\"viewport\" content=\"width=device-width\"><title>{title}</title>\n\
+         <style>{PAGE_STYLE}</style></head>\n<body class=\"{wide}\"><header><div id=\"bar\"><b>{title}</b>{CONTROLS}</div>\n{CAPTION}</header>\n\
+         <main><div id=\"picture\">{picture}</div><ol id=\"steps\"></ol></main>\n<script>{data}\n{PAGE_SCRIPT}</script></body></html>\n"
     ))
 }

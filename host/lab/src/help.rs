@@ -34,7 +34,11 @@ pub const GROUPS: [(&str, &[Word]); 4] = [
         &[
             word("cut", "cut [CALL / HOW]", "the power fails in that call, with the bits that HOW names turned; alone, between two calls ('help how')"),
             word("dark", "dark [map=N hold=N]", "as a cut between two calls; the lost map and hold are filled with these numbers"),
-            word("sweep", "sweep [until-done] CALL [/ first|last|but [STEP]]", "cuts that call at every due bit, recovers each time, and counts old and new settings; nothing is changed ('help sweep')"),
+            word(
+                "sweep",
+                "sweep [until-done] CALL [/ first|last|but [STEP]]",
+                "cuts that call at every due bit, recovers each time, and counts old and new settings; nothing is changed ('help sweep')",
+            ),
         ],
     ),
     (

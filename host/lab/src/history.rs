@@ -52,7 +52,13 @@ impl History {
         let g = world.geometry;
         if self.geometry.is_none_or(|old| (old.blocks, old.pages) != (g.blocks, g.pages)) {
             let n = world.pages.list.len();
-            *self = History { geometry: Some(g), cells: vec![CLEAN; n], stamps: vec![u64::MAX; n], zones: vec![("", String::new()); g.blocks as usize], ..History::default() };
+            *self = History {
+                geometry: Some(g),
+                cells: vec![CLEAN; n],
+                stamps: vec![u64::MAX; n],
+                zones: vec![("", String::new()); g.blocks as usize],
+                ..History::default()
+            };
             self.words.push(Words::default());
             self.known.insert(Words::default(), 0);
         }
@@ -93,5 +99,33 @@ impl History {
             self.words.push(w.clone());
             next
         })
+    }
+}
+
+#[cfg(test)]
+mod tests {
+    use super::*;
+    use crate::session::Session;
+
+    #[test]
+    fn the_runs_of_all_steps_give_the_last_picture() {
+        let script = "format-to-the-end 8 8 16\nbegin 5\nwrite 5 3 1\nwrite 5 4 2\ncommit 5\nlone 3 7\nuntil-done checkpoint\nbegin 6\nwrite 6 1 1\nwrite 6 2 1\ncut commit 6 / first 9%\nrecover";
+        let mut session = Session::default();
+        for line in script.lines() {
+            assert!(session.line(line, &mut Vec::new()).is_ok());
+        }
+        let history = &session.history;
+        assert_eq!(history.steps.len(), 13);
+        let mut cells = vec![CLEAN; 64];
+        for run in history.steps.iter().flat_map(|s| &s.runs) {
+            cells[run.first..run.first + run.pages].fill(run.cell);
+        }
+        let mut anew = History::default();
+        anew.record(session.world.as_ref().unwrap(), "", "");
+        for (k, cell) in cells.iter().enumerate() {
+            assert_eq!((cell.kind, cell.edges), (anew.cells[k].kind, anew.cells[k].edges), "page {k}");
+            assert!(history.words[cell.words as usize] == anew.words[anew.cells[k].words as usize], "page {k}");
+        }
+        assert!(cells.iter().filter(|c| c.kind != ERASED).count() == 9);
     }
 }

@@ -106,7 +106,9 @@ fn group(view: &View, pages: &[Page], k: usize) -> Group {
     let front = 2 * view.geometry.pages as usize;
     match p.is_whole() {
         false => Group::None,
-        true if k < front => view.checkpoints.iter().find(|c| (c.first..=c.first + view.geometry.map_pages()).contains(&k)).map_or(Group::None, |c| Group::Checkpoint(c.first)),
+        true if k < front => {
+            view.checkpoints.iter().find(|c| (c.first..=c.first + view.geometry.map_pages()).contains(&k)).map_or(Group::None, |c| Group::Checkpoint(c.first))
+        }
         true if p.id == 0 => Group::Lone,
         true => Group::Change(p.id),
     }

@@ -355,7 +355,8 @@ impl Words<'_> {
             ("raw", 3) => {
                 let at = self.number(1, "page number", 0xFFFF)? as usize;
                 let hex = self.word(2).unwrap_or("");
-                let bytes: Option<Vec<u8>> = (hex.len() == 2 * PAGE && hex.is_ascii()).then(|| (0..PAGE).filter_map(|i| u8::from_str_radix(&hex[2 * i..2 * i + 2], 16).ok()).collect());
+                let bytes: Option<Vec<u8>> =
+                    (hex.len() == 2 * PAGE && hex.is_ascii()).then(|| (0..PAGE).filter_map(|i| u8::from_str_radix(&hex[2 * i..2 * i + 2], 16).ok()).collect());
                 match bytes {
                     Some(bytes) if bytes.len() == PAGE => Ok(Command::Page { at, bytes }),
                     _ => Err(format!("a raw page is {} hexadecimal digits", 2 * PAGE)),

@@ -1,8 +1,7 @@
 //! A session: the world, the steps so far, and the carrying out of one line after another.
 use crate::{
     cut::How,
-    draw,
-    help,
+    draw, help,
     history::History,
     pages::Op,
     script::{parse, Command, Line},
@@ -54,18 +53,21 @@ impl Session {
             Command::Call(call) => say(&format!("{}\n", self.with_flash(call, |s| s.call(text, call, line.expected.as_deref()))?))?,
             Command::FormatToTheEnd(g) => say(&format!("{}\n", self.with_flash(&Call::Format(*g), |s| s.format(text, *g, line.expected.as_deref()))?))?,
             Command::UntilDone(call) => {
-                let name = text.strip_prefix("until-done").unwrap_or(text).trim();
                 if self.kept.is_some() {
                     return Err("between keep and back each call starts anew: until-done has no end there".into());
                 }
+                let name = text.strip_prefix("until-done").unwrap_or(text).trim();
+                let before = line.expected.as_ref().map(|_| self.world.clone());
                 loop {
                     let (said, answer) = self.with_flash(call, |s| s.stride(name, call))?;
                     say(&format!("{said}\n"))?;
-                    if answer != Answer::More {
-                        match &line.expected {
-                            Some(e) if *e != answer.number().to_string() => return Err(format!("expected {e}, and the answer is {}", answer_words(answer))),
-                            _ => break,
+                    match (answer, &line.expected) {
+                        (Answer::More, _) => continue,
+                        (_, Some(e)) if *e != answer.number().to_string() => {
+                            self.world = before.flatten();
+                            return Err(format!("expected {e}, and the answer is {}", answer_words(answer)));
                         }
+                        _ => break,
                     }
                 }
             }
@@ -210,7 +212,9 @@ impl Session {
             return Err(found);
         }
         let said = match answer {
-            Answer::Done => format!("{}; {}, {} blocks of {} pages, {} logical pages", answer_words(answer), plural(strides, "stride"), g.blocks, g.pages, g.logical),
+            Answer::Done => {
+                format!("{}; {}, {} blocks of {} pages, {} logical pages", answer_words(answer), plural(strides, "stride"), g.blocks, g.pages, g.logical)
+            }
             _ => {
                 let said = call_line(text, world, &call, answer, Op::Nothing);
                 self.record(text, said_of(text, &said));
@@ -253,7 +257,7 @@ impl Session {
             }
             Command::Map(lpn, page) => {
                 let logical = world.store.map.len();
-                *world.store.map.get_mut(*lpn).ok_or(format!("there is no map entry {lpn}: entries are 0 to {}", logical - 1))? = *page;
+                *world.store.map.get_mut(*lpn).ok_or(format!("there is no map entry {lpn}: entries are 0 to {}", logical.saturating_sub(1)))? = *page;
                 world.spoilt = true;
                 Ok("the map entry is set by hand".into())
             }

@@ -87,7 +87,9 @@ pub fn call_line(text: &str, world: &World, call: &Call, answer: Answer, op: Op)
             let w = world.geometry;
             parts.push(format!("this flash has {} blocks of {} pages and {} logical pages; 'blank' takes another", w.blocks, w.pages, w.logical));
         }
-        (_, Answer::Refused(r)) if r.0 == 1 && world.lost && !matches!(call, Call::Format(_) | Call::Recover(_)) => parts.push("there is no state: recover first".into()),
+        (_, Answer::Refused(r)) if r.0 == 1 && world.lost && !matches!(call, Call::Format(_) | Call::Recover(_)) => {
+            parts.push("there is no state: recover first".into())
+        }
         _ => (),
     }
     let done = op_words(world, op);
@@ -101,11 +103,11 @@ pub fn plural(n: usize, one: &str) -> String {
     format!("{n} {one}{}", if n == 1 { "" } else { "s" })
 }
 
-fn numbers(list: &[u8]) -> String {
+fn numbers<T: ToString>(list: &[T]) -> String {
     if list.is_empty() {
         return "none".into();
     }
-    list.iter().map(u8::to_string).collect::<Vec<_>>().join(" ")
+    list.iter().map(T::to_string).collect::<Vec<_>>().join(" ")
 }
 
 pub fn show(world: &World, what: &Show) -> Result<String, String> {
@@ -164,7 +166,7 @@ fn zones(world: &World, view: &View) -> String {
             list.iter().map(one).collect::<Vec<_>>().join(", ")
         }
     };
-    let of = |zone: Zone| numbers(&(0..view.zones.len()).filter(|b| view.zones[*b] == zone).map(|b| b as u8).collect::<Vec<_>>());
+    let of = |zone: Zone| numbers(&(0..view.zones.len()).filter(|b| view.zones[*b] == zone).collect::<Vec<_>>());
     text += &format!("  available     {}\n", with_clean(&view.available));
     text += &format!("  unavailable   {}\n", numbers(&view.unavailable));
     text += &format!("  free          {}\n", of(Zone::Free));
@@ -223,7 +225,9 @@ fn block(world: &World, view: &View, b: usize) -> String {
         let p = &world.pages.list[k];
         let line = match p.class {
             Class::Erased => format!("  {k:4}  erased"),
-            Class::Whole => format!("  {k:4}  whole    {:5}  {:5}  {:10}  {:10}  {:4}  {}", p.lpn, p.cnt, p.id, p.ver, p.kind_word(), fate_words(world, view, k)),
+            Class::Whole => {
+                format!("  {k:4}  whole    {:5}  {:5}  {:10}  {:10}  {:4}  {}", p.lpn, p.cnt, p.id, p.ver, p.kind_word(), fate_words(world, view, k))
+            }
             Class::Torn => format!("  {k:4}  torn         -      -           -           -     -  {}", fate_words(world, view, k)),
         };
         text += line.trim_end();
@@ -364,8 +368,16 @@ fn book(world: &World) -> String {
 }
 
 /// The parts of a page by name: first byte and the byte past the last.
-const FIELDS: [(&str, usize, usize); 8] =
-    [("data", 0, 512), ("LPN", 512, 514), ("TxCnt", 514, 516), ("TxID", 516, 520), ("TxVer", 520, 524), ("Kind", 524, 525), ("Reserved", 525, 526), ("Zeros", 526, 528)];
+const FIELDS: [(&str, usize, usize); 8] = [
+    ("data", 0, 512),
+    ("LPN", 512, 514),
+    ("TxCnt", 514, 516),
+    ("TxID", 516, 520),
+    ("TxVer", 520, 524),
+    ("Kind", 524, 525),
+    ("Reserved", 525, 526),
+    ("Zeros", 526, 528),
+];
 
 fn cut(world: &World, c: &Cut, bits: bool) -> String {
     let mut text = format!("{}\n", c.what);
@@ -405,7 +417,8 @@ fn cut(world: &World, c: &Cut, bits: bool) -> String {
         }
         for group in lines.chunk_by(|a, b| a.0 / 8 == b.0 / 8) {
             let at = group[0].0 / 8 * 8;
-            let shown: Vec<String> = (at..at + 8).map(|i| group.iter().find(|(b, _)| *b == i).map_or("........".into(), |(_, l)| String::from_utf8_lossy(l).into_owned())).collect();
+            let shown: Vec<String> =
+                (at..at + 8).map(|i| group.iter().find(|(b, _)| *b == i).map_or("........".into(), |(_, l)| String::from_utf8_lossy(l).into_owned())).collect();
             text += &format!("  page {:4} byte {:3}  {}\n", at / PAGE, at % PAGE, shown.join(" "));
         }
     }

@@ -49,8 +49,20 @@ fn state_words(s: &State) -> String {
     let (g, z) = (s.geometry, &s.zones);
     format!(
         "{} {} {} available={} unavailable={} free={} pointer={} version={} checkpoint={} front={}:{} work={}:{} places={}",
-        g.blocks, g.pages, g.logical, commas(&z.available), commas(&z.unavailable), commas(&z.free), z.pointer, s.version, s.checkpoint, s.front, s.first,
-        kind_word(s.work.kind), s.work.stride, places.join(" ")
+        g.blocks,
+        g.pages,
+        g.logical,
+        commas(&z.available),
+        commas(&z.unavailable),
+        commas(&z.free),
+        z.pointer,
+        s.version,
+        s.checkpoint,
+        s.front,
+        s.first,
+        kind_word(s.work.kind),
+        s.work.stride,
+        places.join(" ")
     )
 }
 
@@ -114,7 +126,9 @@ pub fn agrees(said: &str, answer: Answer, op: Op, before: &Store, world: &World)
             (Some(("program", k)), Op::Program(at)) => k == at.to_string(),
             (Some(("erase", b)), Op::Erase(at)) => b == at.to_string(),
             // a block that was erased before shows no change
-            (Some(("erase", b)), Op::Nothing) => b.parse().is_ok_and(|b: usize| world.block(b).is_some_and(|r| world.pages.list[r].iter().all(|p| p.class == Class::Erased))),
+            (Some(("erase", b)), Op::Nothing) => {
+                b.parse().is_ok_and(|b: usize| world.block(b).is_some_and(|r| world.pages.list[r].iter().all(|p| p.class == Class::Erased)))
+            }
             _ => false,
         };
         if !same {

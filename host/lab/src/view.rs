@@ -16,6 +16,8 @@ pub enum Zone {
 }
 
 impl Zone {
+    pub const ALL: [Zone; 6] = [Zone::Front, Zone::Available, Zone::Unavailable, Zone::Checkpointed, Zone::Free, Zone::Unknown];
+
     pub fn word(self) -> &'static str {
         match self {
             Zone::Front => "front",
@@ -194,7 +196,13 @@ impl View {
     /// What refusal 4 sees on a scanned whole page by itself.
     fn is_bad(&self, p: &Page) -> bool {
         let top = 0xFFFF_FFFF;
-        p.kind != 0 || p.reserved != 0 || p.lpn >= self.geometry.logical || (p.cnt == 0) != (p.ver == 0) || p.id == top || p.ver == top || (p.id == 0 && p.cnt != 1)
+        p.kind != 0
+            || p.reserved != 0
+            || p.lpn >= self.geometry.logical
+            || (p.cnt == 0) != (p.ver == 0)
+            || p.id == top
+            || p.ver == top
+            || (p.id == 0 && p.cnt != 1)
     }
 }
 
