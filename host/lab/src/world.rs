@@ -1,0 +1,238 @@
+//! A flash with the layer's buffers, the book beside it, and the cut that fell last. Every call goes through the proved library.
+use crate::{
+    book::Book,
+    cut::{due_bits, turn, Cut, How},
+    pages::{Op, Pages},
+    view::View,
+};
+use bokuhira::{Answer, Call, Geometry, Kind, State, Store, DATA, HOLD, PAGE, STATE, UNMAPPED};
+use std::ops::Range;
+
+#[derive(Clone)]
+pub struct World {
+    pub geometry: Geometry,
+    pub store: Store,
+    pub pages: Pages,
+    /// No state: power was cut, or the array is new to the layer.
+    pub lost: bool,
+    /// Something was written by hand, past the layer.
+    pub spoilt: bool,
+    /// None where no format of this session made the array.
+    pub book: Option<Book>,
+    pub cut: Option<Cut>,
+}
+
+impl World {
+    /// A flash that the layer has not seen: all zero bytes.
+    pub fn blank(g: Geometry) -> World {
+        World::import(g, vec![0; g.array_len()])
+    }
+
+    /// A flash with these bytes, which must be as many as the geometry says.
+    pub fn import(g: Geometry, array: Vec<u8>) -> World {
+        let pages = Pages::of(&array);
+        World { geometry: g, store: Store { array, ..Store::blank(g) }, pages, lost: true, spoilt: false, book: None, cut: None }
+    }
+
+    pub fn state(&self) -> Option<State> {
+        if self.lost {
+            None
+        } else {
+            State::decode(&self.store.state)
+        }
+    }
+
+    pub fn view(&self) -> View {
+        let found = if self.lost { self.recovered() } else { None };
+        View::of(self.geometry, &self.store.array, &self.pages.list, found.as_ref().map_or(&self.store.map, |s| &s.map), self.state().as_ref())
+    }
+
+    /// What a recovery makes of the array, on a copy; none where it refuses.
+    pub fn recovered(&self) -> Option<Store> {
+        let mut copy = Store { array: self.store.array.clone(), ..Store::blank(self.geometry) };
+        (copy.recover(self.geometry) == Answer::Done).then_some(copy)
+    }
+
+    /// The pages of a block, none where there is no such block.
+    pub fn block(&self, b: usize) -> Option<Range<usize>> {
+        let p = self.geometry.pages as usize;
+        (b < self.geometry.blocks as usize).then(|| b * p..(b + 1) * p)
+    }
+
+    pub fn page_bytes(&self, k: usize) -> &[u8] {
+        &self.store.array[k * PAGE..(k + 1) * PAGE]
+    }
+
+    pub fn data(&self, k: usize) -> &[u8] {
+        &self.page_bytes(k)[..DATA]
+    }
+
+    pub fn mapped_count(&self) -> usize {
+        self.store.map.iter().filter(|e| **e != UNMAPPED).count()
+    }
+
+    /// Carries out one call.
+    pub fn call(&mut self, call: &Call) -> (Answer, Op) {
+        let answer = self.store.call(call);
+        match (call, answer) {
+            (_, Answer::Refused(_)) => (),
+            (Call::Format(g), _) => {
+                (self.geometry, self.lost, self.spoilt, self.cut) = (*g, false, false, None);
+                self.book = Some(Book::fresh(g.logical));
+            }
+            (Call::Recover(g), _) => (self.geometry, self.lost) = (*g, false),
+            _ => (),
+        }
+        if let Some(book) = &mut self.book {
+            book.answered(call, answer);
+        }
+        (answer, self.pages.follow(&self.store.array, self.geometry))
+    }
+
+    /// The power fails in this call, or between two. The state is lost with it.
+    pub fn cut(&mut self, call: Option<&Call>, how: How, what: &str) {
+        let mut after = self.store.clone();
+        let answer = call.map(|c| after.call(c));
+        let due = due_bits(&self.store.array, &after.array);
+        let op = self.operation(&due);
+        let from = due.first().map_or(0, |bit| *bit as usize / 8 / PAGE * PAGE);
+        let until = due.last().map_or(0, |bit| (*bit as usize / 8 / PAGE + 1) * PAGE);
+        let before = self.store.array[from..until].to_vec();
+        let turned: Vec<bool> = (0..due.len()).map(|i| how.turns(i, due.len())).collect();
+        due.iter().zip(&turned).filter(|(_, t)| **t).for_each(|(bit, _)| turn(&mut self.store.array, *bit));
+        let complete = matches!(op, Op::Program(_)) && turned.iter().all(|t| *t);
+        match (call, answer) {
+            (Some(Call::Format(_)), Some(Answer::Done | Answer::More)) => self.book = None,
+            _ => self.book.iter_mut().for_each(|b| b.cut(call, complete)),
+        }
+        self.pages.follow(&self.store.array, self.geometry);
+        self.cut = Some(Cut { what: what.into(), op, due, turned, before, from });
+        self.dark(0, 0);
+    }
+
+    /// What due bits of one operation say about it: a program turns ones, an erase zeros.
+    pub fn operation(&self, due: &[u32]) -> Op {
+        match due.first() {
+            None => Op::Nothing,
+            Some(bit) if self.store.array[*bit as usize / 8] >> (bit % 8) & 1 == 1 => Op::Program(*bit as usize / 8 / PAGE),
+            Some(bit) => Op::Erase(*bit as usize / 8 / PAGE / self.geometry.pages as usize),
+        }
+    }
+
+    /// State, map and hold are lost: these numbers stand in them. A format that was under way is not finished, so it has no book.
+    pub fn dark(&mut self, map: u16, hold: u8) {
+        if self.state().is_some_and(|s| s.work.kind == Kind::Format) {
+            self.book = None;
+        }
+        self.store.map = vec![map; self.geometry.logical as usize];
+        self.store.hold = vec![hold; HOLD];
+        self.store.state = vec![0; STATE];
+        self.lost = true;
+        if let Some(book) = &mut self.book {
+            book.open.clear();
+        }
+    }
+
+    /// Bytes of the array written by hand.
+    pub fn spoil(&mut self, at: usize, bytes: &[u8]) {
+        self.store.array[at..at + bytes.len()].copy_from_slice(bytes);
+        self.pages.follow(&self.store.array, self.geometry);
+        self.spoilt = true;
+    }
+}
+
+#[cfg(test)]
+mod tests {
+    use super::*;
+    use crate::{cut::Amount, script::seeded, view::Fate};
+    use bokuhira::UNMAPPED;
+
+    /// Numbers that look drawn by lot.
+    struct Lot(u64);
+
+    impl Lot {
+        fn below(&mut self, n: u64) -> u64 {
+            self.0 = self.0.wrapping_mul(6364136223846793005).wrapping_add(1442695040888963407);
+            (self.0 >> 33) % n
+        }
+    }
+
+    fn some_call(lot: &mut Lot, logical: u16) -> Call {
+        let (id, lpn) = (lot.below(40) as u32 + 1, lot.below(logical as u64) as u16);
+        let data = seeded(lot.below(256));
+        match lot.below(16) {
+            0..=2 => Call::Begin(id),
+            3..=7 => Call::Write { id, lpn, data },
+            8 => Call::Lone { lpn, data },
+            9..=11 => Call::Commit(id),
+            12 => Call::Abort(id),
+            13 | 14 => Call::Checkpoint,
+            _ => Call::Reclaim,
+        }
+    }
+
+    /// What the view says of the pages, carried out by hand on the newest checkpoint's map, is the map that the proved recovery makes.
+    fn redo(world: &World) -> Vec<u16> {
+        let view = world.view();
+        let c = &view.checkpoints[view.newest.unwrap()];
+        let entry = |lpn: usize| {
+            let at = (c.first + lpn / 256) * PAGE + 2 * (lpn % 256);
+            u16::from_le_bytes([world.store.array[at], world.store.array[at + 1]])
+        };
+        let mut map: Vec<u16> = (0..world.geometry.logical as usize).map(entry).collect();
+        let pages = &world.pages.list;
+        let committed: Vec<usize> = view.scan().filter(|k| view.fates[*k] == Fate::Committed).collect();
+        let mut marks: Vec<usize> = committed.iter().copied().filter(|k| pages[*k].cnt != 0).collect();
+        marks.sort_by_key(|k| pages[*k].ver);
+        for mark in marks {
+            for k in committed.iter().filter(|k| **k == mark || (pages[mark].id != 0 && pages[**k].id == pages[mark].id)) {
+                map[pages[*k].lpn as usize] = *k as u16;
+            }
+        }
+        map
+    }
+
+    #[test]
+    fn the_view_and_the_book_agree_with_the_proved_recovery() {
+        let mut cuts = 0;
+        for seed in 0..60 {
+            let mut lot = Lot(seed);
+            let g = Geometry::new(8 + lot.below(4) as u16, 8 + lot.below(3) as u16, 10 + lot.below(7) as u16);
+            let mut world = World::blank(g);
+            while world.call(&Call::Format(g)).0 == Answer::More {}
+            let mut under_way = Call::Read(0);
+            for _ in 0..400 {
+                let call = if matches!(under_way, Call::Read(_)) { some_call(&mut lot, g.logical) } else { under_way.clone() };
+                if lot.below(25) > 0 {
+                    let (answer, _) = world.call(&call);
+                    under_way = if answer == Answer::More { call } else { Call::Read(0) };
+                    continue;
+                }
+                let how = [How::None, How::All, How::First(Amount::Percent(50)), How::ButLast, How::Every(3, 1)][lot.below(5) as usize];
+                world.cut(Some(&call), how, "");
+                let seen = redo(&world);
+                let holds = world.view().holds;
+                assert_eq!(world.call(&Call::Recover(g)).0, Answer::Done);
+                assert_eq!(world.store.map, seen);
+                assert_eq!(holds, world.view().holds);
+                let book = world.book.clone().unwrap();
+                for (lpn, said) in book.pages.iter().enumerate() {
+                    assert_eq!(said.as_deref(), world.store.read(lpn as u16).ok());
+                    assert_eq!(said.is_some(), world.store.map[lpn] != UNMAPPED);
+                }
+                under_way = Call::Read(0);
+                cuts += 1;
+            }
+        }
+        assert!(cuts > 500, "{cuts} cuts");
+    }
+
+    #[test]
+    fn a_format_that_was_cut_has_no_book() {
+        let g = Geometry::new(8, 8, 16);
+        let mut world = World::blank(g);
+        assert_eq!(world.call(&Call::Format(g)).0, Answer::More);
+        world.cut(None, How::None, "");
+        assert!(world.book.is_none());
+    }
+}
