@@ -12,7 +12,7 @@ use Rattle.model.specs.Lists.{all, any, allTails, allHeads, find}
 
 module _ {A : Type 0} where
   -- every element passes
-  all-step : (p : A → Bool) (l : List A) (i : ℕ) (d : A) → i < length l → all p (drop i l) ≡ (p (getD l i d) && all p (drop (i + 1) l))
+  pub all-step : (p : A → Bool) (l : List A) (i : ℕ) (d : A) → i < length l → all p (drop i l) ≡ (p (getD l i d) && all p (drop (i + 1) l))
   unfolding all
   all-step p l i d h = rw (add-one, drop-cons l i d)
 

@@ -44,32 +44,50 @@ pub fn load_map(array: &[u8], k: usize, m: usize) -> [u16; 1024]
     entries
 }
 
-/// Whether every entry is unmapped.
+/// The lower of two entries: unmapped only where both are.
+fn lower(v: u16, w: u16) -> u16
+    ensures { λ r. ⌜ eqb unmapped r ≡ (eqb unmapped v && eqb unmapped w) ⌝ }
+{
+    if w < v {
+        return w;
+    }
+    v
+}
+
+/// Whether every entry is unmapped: the lowest is. The loop has no other way out, so many entries are taken at once.
 fn all_unmapped(entries: &[u16]) -> bool
     ensures { λ r. ⌜ r ≡ all (eqb unmapped) (now (entries .entry)) ⌝ }
 {
+    let mut lowest = Map::UNMAPPED;
     let mut i: usize = 0;
     while i < entries.len() {
-        if entries[i] != Map::UNMAPPED {
-            return false;
-        }
+        lowest = lower(lowest, entries[i]);
         i += 1;
     }
-    true
+    lowest == Map::UNMAPPED
 }
 
-/// Whether every byte is zero.
+/// The higher of two bytes: zero only where both are.
+fn higher(v: u8, w: u8) -> u8
+    ensures { λ r. ⌜ eqb 0 r ≡ (eqb 0 v && eqb 0 w) ⌝ }
+{
+    if v < w {
+        return w;
+    }
+    v
+}
+
+/// Whether every byte is zero: the highest is.
 fn all_zero(rest: &[u8]) -> bool
     ensures { λ r. ⌜ r ≡ all (eqb 0) (now (rest .entry)) ⌝ }
 {
+    let mut highest: u8 = 0;
     let mut i: usize = 0;
     while i < rest.len() {
-        if rest[i] != 0 {
-            return false;
-        }
+        highest = higher(highest, rest[i]);
         i += 1;
     }
-    true
+    highest == 0
 }
 
 /// A byte as an index.

@@ -1,35 +1,33 @@
--- `load::all_unmapped` meets its contract. The loop's invariant: no entry before the `i`-th is mapped. Assumes nothing.
+-- `load::all_unmapped` meets its contract. The loop's invariant: the lowest entry stands for those before the `i`-th. Assumes nothing.
 use mathlib.Core.Path.{_≡_, refl, sym}
+use mathlib.Core.Bool.{_&&_}
 use Prim.Native.Nat.{_-_, _≤_}
 use native.Mathlib.Omega.{arith}
 use lib.Dec.{eqb}
 use lib.ListN.{length, drop}
-use borrow.Author.Tests.{eq-eqb, ne-eqb}
 use Rattle.model.specs.Geometry.{unmapped}
 use Rattle.model.specs.Lists.{all}
-use Rattle.blocks.proofs.Loops.{all-pass, all-fail, all-end}
+use Rattle.load.proofs.Rest.{turn, end}
 use Rattle.load.proofs.all_unmapped.Statement.{statement}
 use Rattle.load.proofs.all_unmapped.Tie as tie
 
 abbrev Inv-loop : tie.InvT-loop
-Inv-loop entries i₀ i = (i ≤ length entries) × (all (eqb unmapped) entries ≡ all (eqb unmapped) (drop i entries))
+Inv-loop entries lowest₀ i₀ lowest i = (i ≤ length entries) × (all (eqb unmapped) entries ≡ (eqb unmapped lowest && all (eqb unmapped) (drop i entries)))
 
 abbrev μ-loop : tie.MeasureT-loop
-μ-loop entries i₀ i = length entries - i
+μ-loop entries lowest₀ i₀ lowest i = length entries - i
 
 loop-holds : tie.Need-loop-holds Inv-loop μ-loop
 loop-holds c = (omega arith, refl)
 
-mul-if1 : tie.Need-mul-if1 Inv-loop μ-loop
-mul-if1 c = omega arith
+mul-lower : tie.Need-mul-lower Inv-loop μ-loop
+mul-lower c = omega arith
 
-shared-slice-read-if1 : tie.Need-shared-slice-read-if1 Inv-loop μ-loop
-shared-slice-read-if1 c = omega arith
+shared-slice-read-lower : tie.Need-shared-slice-read-lower Inv-loop μ-loop
+shared-slice-read-lower c = omega arith
 
-returns : tie.Need-returns Inv-loop μ-loop
-returns c =
-    let l = c .before .before .before in
-    sym (all-fail (eqb unmapped) (l .before .args .entries .now) (l .loop .i) 0 (omega arith) (l .loop .inv .1) (ne-eqb _ _ (λ e. c .if1 .taken (sym e))))
+lower-requires : tie.Need-lower-requires Inv-loop μ-loop
+lower-requires c κs = tt
 
 add-i : tie.Need-add-i Inv-loop μ-loop
 add-i c = omega arith
@@ -40,12 +38,12 @@ loop-less c = omega arith
 loop-again : tie.Need-loop-again Inv-loop μ-loop
 loop-again c =
     let l = c .before .before .before in
-    (omega arith, all-pass (eqb unmapped) (l .before .args .entries .now) (l .loop .i) 0 (omega arith) (l .loop .inv .1) (eq-eqb _ _ (sym (c .if1 .left))))
+    (omega arith, turn unmapped (l .before .before .args .entries .now) (l .loop .i) (l .loop .lowest) (c .lower .result) (omega arith) (l .loop .inv .1) (c .lower .ensures))
 
-returns-2 : tie.Need-returns-2 Inv-loop μ-loop
-returns-2 c =
+returns : tie.Need-returns Inv-loop μ-loop
+returns c =
     let l = c .before in
-    sym (all-end (eqb unmapped) (l .before .args .entries .now) (l .loop .i) (omega arith) (l .loop .inv .1))
+    end unmapped (l .before .before .args .entries .now) (l .loop .i) (l .loop .lowest) (omega arith) (l .loop .inv .1)
 
 pub all-unmapped-spec : {M : Type 1} → statement M
 all-unmapped-spec =
@@ -54,10 +52,10 @@ all-unmapped-spec =
     Inv-loop
     μ-loop
     loop-holds
-    mul-if1
-    shared-slice-read-if1
-    returns
+    mul-lower
+    shared-slice-read-lower
+    lower-requires
     add-i
     loop-less
     loop-again
-    returns-2)
+    returns)
