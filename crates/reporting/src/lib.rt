@@ -95,12 +95,12 @@ fn put_number(out: &mut [u8], at: usize, n: u64) -> usize
     put(out, at, &digits[..k])
 }
 
-/// Puts block b, before which i were put.
-fn put_block(out: &mut [u8], at: usize, i: usize, b: u8) -> usize
+/// Puts block b, with a comma unless none was put before it.
+fn put_block(out: &mut [u8], at: usize, before: usize, b: u8) -> usize
     requires { ⌜ at + 21 ≤ length (now out) ⌝ }
-    ensures { λ r. ⌜ Put (now (out .entry)) at (comma i ++ decimal b) 21 (now (out .exit)) r ⌝ }
+    ensures { λ r. ⌜ Put (now (out .entry)) at (comma before ++ decimal b) 21 (now (out .exit)) r ⌝ }
 {
-    if i == 0 {
+    if before == 0 {
         return put_number(out, at, b as u64);
     }
     let a = put(out, at, b",");
