@@ -1,0 +1,5 @@
+pub mod Putting
+pub mod Decimals
+pub mod Blocks
+pub mod Parsing
+pub mod Reports

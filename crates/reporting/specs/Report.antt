@@ -1,0 +1,54 @@
+-- The report: what the program writes, for every input.
+use Prim.Native.Nat.{ℕ}
+use mathlib.Core.Bool.{cond}
+use mathlib.Core.List.{List, [], _∷_, _++_}
+use lib.ListN.{length, replicate}
+use lib.Dec.{eqb, ltb}
+use Rattle.model.specs.Geometry.{blankMap}
+use Rattle.model.specs.World.{World}
+use Rattle.model.specs.Frame.{freshState}
+use Rattle.model.specs.Commands.{Outcome, exec, recover}
+use Rattle.model.specs.declared.Geometry.{Geometry}
+use Rattle.reporting.specs.Input.{Line, says, illFormed, lineOf}
+use Rattle.reporting.specs.Text.{answerName, numberLine, stateText}
+
+-- "A refusal prints the answer line only"
+unfoldable pub outcomeText : Outcome → List ℕ
+outcomeText o = numberLine answerName (o .answer) ++ cond (eqb (o .answer) 0) (stateText (o .world .state) (o .world .map)) []
+
+-- a hold in which nothing stands
+unfoldable pub emptyHold : List ℕ
+emptyHold = replicate 4096 0
+
+-- an array with a map and a hold lent for it
+abbrev pub lent : Geometry → List ℕ → List ℕ → World
+lent g xs map = record { array = xs; map = map; hold = emptyHold; state = freshState g }
+
+-- the array recovered with this geometry; "at most 65,536 bytes"
+unfoldable pub arrayReport : Geometry → List ℕ → List ℕ
+arrayReport g xs = cond (ltb 65536 (length xs)) (numberLine answerName 1) (outcomeText (exec (recover g) (lent g xs (blankMap g))))
+
+-- what a line leads to; "ill-formed lines count as 1"
+abbrev pub following : Line → (ℕ → List ℕ → List ℕ) → List ℕ
+following (says v xs) f = f v xs
+following illFormed f = numberLine answerName 1
+
+-- "three lines, `blocks=8`, `pages=8`, `logical=16`, then the array"
+abbrev pub blocksName : List ℕ
+blocksName = 98 ∷ 108 ∷ 111 ∷ 99 ∷ 107 ∷ 115 ∷ 61 ∷ []
+
+-- "pages="
+abbrev pub pagesName : List ℕ
+pagesName = 112 ∷ 97 ∷ 103 ∷ 101 ∷ 115 ∷ 61 ∷ []
+
+-- "logical="
+abbrev pub logicalName : List ℕ
+logicalName = 108 ∷ 111 ∷ 103 ∷ 105 ∷ 99 ∷ 97 ∷ 108 ∷ 61 ∷ []
+
+-- the report on an input
+unfoldable pub reportOf : List ℕ → List ℕ
+reportOf input =
+    following (lineOf blocksName input) (λ (b : ℕ) (second : List ℕ).
+    following (lineOf pagesName second) (λ (p : ℕ) (third : List ℕ).
+    following (lineOf logicalName third) (λ (l : ℕ) (xs : List ℕ).
+    arrayReport (record { blocks = b; pages = p; logical = l }) xs)))
