@@ -1,29 +1,21 @@
 -- The bytes of each element of a list, laid one after the other. Assumes nothing.
-use mathlib.Core.Path.{_≡_, refl, sym, ap, _∙_}
-use mathlib.Core.List.{List, [], _∷_, _++_, append-assoc, append-nil}
-use Prim.Native.Nat.{ℕ, zero, suc, _+_, _*_, _≤_, _<_}
+use mathlib.Core.Path.{_≡_, refl, ap, _∙_}
+use mathlib.Core.List.{List, [], _∷_, _++_}
+use Prim.Native.Nat.{ℕ, _+_, _*_, _≤_, _<_}
 use native.Mathlib.Numerals.{add-one}
 use native.Mathlib.Omega.{arith}
 use native.Mathlib.Nat.{mul-suc}
 use lib.ListN.{length, take, getD}
 use lib.Seq.{take-suc, take-all}
 use Rattle.encoding.specs.Encoding.{each, Laid}
+use Rattle.encoding.specs.Each.{each-append, each-one}
 use Rattle.encoding.proofs.Laid.{laid-none, laid-join}
 
 module _ {A : Type 0} (f : A → List ℕ) where
-  each-append : (ps qs : List A) → each f (ps ++ qs) ≡ each f ps ++ each f qs
-  unfolding each
-  each-append [] qs = refl
-  each-append (p ∷ ps) qs = ap (λ (t : List ℕ). f p ++ t) (each-append ps qs) ∙ sym (append-assoc (f p) (each f ps) (each f qs))
-
-  each-one : (p : A) → each f (p ∷ []) ≡ f p
-  unfolding each
-  each-one p = append-nil (f p)
-
   each-more : (ps : List A) (i : ℕ) (d : A) → i < length ps → each f (take (i + 1) ps) ≡ each f (take i ps) ++ f (getD ps i d)
   each-more ps i d h =
-      ap (λ (n : ℕ). each f (take n ps)) (add-one i) ∙ ap (each f) (take-suc ps i d h) ∙ each-append (take i ps) (getD ps i d ∷ [])
-      ∙ ap (λ (t : List ℕ). each f (take i ps) ++ t) (each-one (getD ps i d))
+      ap (λ (n : ℕ). each f (take n ps)) (add-one i) ∙ ap (each f) (take-suc ps i d h) ∙ each-append f (take i ps) (getD ps i d ∷ [])
+      ∙ ap (λ (t : List ℕ). each f (take i ps) ++ t) (each-one f (getD ps i d))
 
   -- none yet
   pub each-none : (xs : List ℕ) (a : ℕ) (ps : List A) → a ≤ length xs → Laid xs a 0 (each f (take 0 ps)) xs

@@ -1,11 +1,10 @@
 -- Structs made of what was read for each field. Assumes nothing.
-use mathlib.Core.Path.{_≡_, refl}
+use mathlib.Core.Path.{_≡_}
 use mathlib.Core.List.{List, [], _∷_}
 use Prim.Native.Nat.{ℕ, _+_, _*_}
 use lib.ListN.{getD}
 use Rattle.model.specs.Lists.{part}
 use Rattle.model.specs.Bytes.{le16, le32, words}
-use Rattle.model.specs.declared.Geometry.{Geometry}
 use Rattle.model.specs.declared.Place.{Place}
 use Rattle.model.specs.declared.Zones.{Zones}
 use Rattle.model.specs.declared.State.{State}

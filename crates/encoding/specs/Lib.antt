@@ -1,1 +1,4 @@
 pub mod Encoding
+pub mod Each
+pub mod BytesBack
+pub mod StateBack

@@ -5,10 +5,10 @@
 // 8 places of 261 bytes, each its identifier (4), its count, 64 logical pages (2 each) and 64 pages (2 each).
 // Bytes encode a state if they are so many, the kind is one of these, and the stride number of a kind that has none is 0.
 ghost use mathlib.Core.Path.{_≡_};
-ghost use Prim.Native.Nat.{ℕ, _+_, _*_, _≤_, _<_};
+ghost use Prim.Native.Nat.{_+_, _*_, _≤_, _<_};
 ghost use lib.ListN.{length};
 ghost use Rattle.model.specs.Lists.{part};
-ghost use Rattle.model.specs.Bytes.{le16, le32, bytes16, bytes32, words};
+ghost use Rattle.model.specs.Bytes.{bytes16, bytes32, words};
 ghost use Rattle.encoding.specs.Encoding.{zonesFrom, workFrom, placeFrom, placesIn, stateFrom, workCoded, encodes, each, zoneBytes, kindOf, strideOf, placeBytes, bytesOf, Laid};
 use model::Geometry;
 use model::Place;

@@ -1,6 +1,6 @@
 -- `encoding::put_zones` meets its contract: the fields are laid one after the other. Assumes nothing.
 use borrow.Author.Needs.{needs}
-use mathlib.Core.Path.{_≡_, refl, _∙_}
+use mathlib.Core.Path.{_≡_, refl}
 use native.Mathlib.Omega.{arith}
 use lib.ListN.{length, length-set}
 use Rattle.encoding.specs.Encoding.{zoneBytes}

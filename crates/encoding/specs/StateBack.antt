@@ -1,0 +1,233 @@
+-- The bytes of a state encode one, and say that very state. Assumes nothing.
+use mathlib.Core.Path.{_≡_, refl, sym, ap, _∙_}
+use mathlib.Core.Bool.{true}
+use mathlib.Core.List.{List, [], _∷_, _++_, append-assoc, append-nil}
+use Prim.Native.Nat.{ℕ, suc, _+_, _*_, _/_, _%_}
+use native.Mathlib.Omega.{arith}
+use lib.ListN.{length, take, drop, getD, length-append}
+use lib.Seq.{drop-drop, take-at, drop-at, getD-drop}
+use borrow.Author.Tests.{eq-eqb}
+use Rattle.model.specs.Lists.{part}
+use Rattle.model.specs.Bytes.{le16, le32, bytes16, bytes32, words}
+use Rattle.model.specs.Frame.{freePlace, freshState}
+use Rattle.model.specs.declared.Geometry.{Geometry}
+use Rattle.model.specs.declared.Place.{Place}
+use Rattle.model.specs.declared.Zones.{Zones}
+use Rattle.model.specs.declared.State.{State}
+use Rattle.model.specs.declared.Work.{Work}
+use Rattle.model.specs.declared.Work.the-variants.{Idle, Format, Checkpoint, Reclaim}
+use Rattle.encoding.specs.Encoding.{zonesFrom, workFrom, placeFrom, placesIn, stateFrom, workCoded, encodes, each, zoneBytes, kindOf, strideOf, placeBytes, bytesOf}
+
+-- ---- lists as long as the types have them
+pub record PlaceShaped (p : Place) : Type 0 where
+  pub lpns : length (p .lpns) ≡ 64
+  pub ppns : length (p .ppns) ≡ 64
+
+abbrev pub PlacesShaped : List Place → Type 0
+PlacesShaped [] = Unit {0}
+PlacesShaped (p ∷ ps) = PlaceShaped p × PlacesShaped ps
+
+pub record Shaped (s : State) : Type 0 where
+  pub available : length (s .zones .available) ≡ 3
+  pub unavailable : length (s .zones .unavailable) ≡ 126
+  pub free : length (s .zones .free) ≡ 126
+  pub places : length (s .places) ≡ 8
+  pub each : PlacesShaped (s .places)
+
+-- ---- what stands from a place on
+record From (xs : List ℕ) (a : ℕ) (ys : List ℕ) : Type 0 where
+  is : drop a xs ≡ ys
+
+moved : {xs ys : List ℕ} {a : ℕ} (b : ℕ) → From xs a ys → a ≡ b → From xs b ys
+moved b f e = rw e at f
+
+regroup : {xs ys : List ℕ} {a : ℕ} (zs : List ℕ) → From xs a ys → ys ≡ zs → From xs a zs
+regroup zs f e = rw e at f
+
+-- behind ys
+past : {xs : List ℕ} {a : ℕ} (ys zs : List ℕ) (n : ℕ) → From xs a (ys ++ zs) → length ys ≡ n → From xs (a + n) zs
+past {xs} {a} ys zs n f h = record { is = sym (drop-drop n a xs) ∙ ap (drop n) (f .is) ∙ drop-at ys zs n h }
+
+behind : {xs zs : List ℕ} {a y : ℕ} → From xs a (y ∷ zs) → From xs (a + 1) zs
+behind {xs} {zs} {a} {y} f = past (y ∷ []) zs 1 f refl
+
+-- ---- what is read there
+part-read : {xs : List ℕ} {a : ℕ} (ys zs : List ℕ) (n : ℕ) → From xs a (ys ++ zs) → length ys ≡ n → part a n xs ≡ ys
+unfolding part
+part-read ys zs n f h = ap (take n) (f .is) ∙ take-at ys zs n h
+
+at-read : {xs ys : List ℕ} {a : ℕ} → From xs a ys → (i : ℕ) → getD xs (a + i) 0 ≡ getD ys i 0
+at-read {xs} {ys} {a} f i = sym (getD-drop a xs i 0) ∙ ap (λ (l : List ℕ). getD l i 0) (f .is)
+
+byte-read : {xs zs : List ℕ} {a y : ℕ} → From xs a (y ∷ zs) → getD xs a 0 ≡ y
+byte-read {xs} {zs} {a} {y} f = let z : a + 0 ≡ a = omega arith in rw z at (at-read f 0)
+
+half-read : {xs : List ℕ} {a : ℕ} (x : ℕ) (zs : List ℕ) → From xs a (bytes16 x ++ zs) → le16 xs a ≡ x
+half-read x zs f = omega (arith, byte-read f, at-read f 1)
+
+word-read : {xs : List ℕ} {a : ℕ} (x : ℕ) (zs : List ℕ) → From xs a (bytes32 x ++ zs) → le32 xs a ≡ x
+word-read {xs} {a} x zs f =
+    let n : a + 3 ≡ a + 2 + 1 = omega arith in
+    omega (arith, byte-read f, at-read f 1, at-read f 2, rw n at (at-read f 3))
+
+words-halves : (ls : List ℕ) → words (each bytes16 ls) ≡ ls
+unfolding words each
+words-halves [] = refl
+words-halves (x ∷ ls) = let e : x % 256 + 256 * (x / 256) ≡ x = omega arith in rw (e, words-halves ls)
+
+length-halves : (ls : List ℕ) → length (each bytes16 ls) ≡ 2 * length ls
+unfolding each
+length-halves [] = refl
+length-halves (x ∷ ls) = let e = length-halves ls in omega arith
+
+halves-read : {xs : List ℕ} {a : ℕ} (ls zs : List ℕ) → From xs a (each bytes16 ls ++ zs) → length ls ≡ 64 → words (part a 128 xs) ≡ ls
+halves-read ls zs f h = ap words (part-read (each bytes16 ls) zs 128 f (length-halves ls ∙ (omega arith))) ∙ words-halves ls
+
+-- ---- a work, the zones, a place, the places
+work-read : (w : Work) → workFrom (kindOf w) (strideOf w) ≡ w
+unfolding workFrom
+work-read Idle = refl
+work-read (Format k) = refl
+work-read (Checkpoint k) = refl
+work-read Reclaim = refl
+
+work-coded : (w : Work) → workCoded (kindOf w) (strideOf w) ≡ true
+unfolding workCoded
+work-coded Idle = refl
+work-coded (Format k) = refl
+work-coded (Checkpoint k) = refl
+work-coded Reclaim = refl
+
+zones-read : {xs : List ℕ} (z : Zones) (r : List ℕ) → length (z .available) ≡ 3 → length (z .unavailable) ≡ 126 → length (z .free) ≡ 126 → From xs 6 (zoneBytes z ++ r) → zonesFrom xs ≡ z
+unfolding zoneBytes zonesFrom
+zones-read {xs} z r ha hu hf f =
+    let f4 = z .nf ∷ z .pointer ∷ r in
+    let f3 = z .free ++ f4 in
+    let f2 = z .unavailable ++ (z .nu ∷ f3) in
+    let a = regroup (z .available ++ (z .na ∷ f2)) f (simp append-assoc) in
+    let na = past (z .available) (z .na ∷ f2) 3 a ha in
+    let u = behind na in
+    let nu = past (z .unavailable) (z .nu ∷ f3) 126 u hu in
+    let g = behind nu in
+    let nf = past (z .free) f4 126 g hf in
+    rw (part-read (z .available) (z .na ∷ f2) 3 a ha, byte-read na, part-read (z .unavailable) (z .nu ∷ f3) 126 u hu, byte-read nu, part-read (z .free) f4 126 g hf, byte-read nf, byte-read (behind nf))
+
+place-read : {xs : List ℕ} (i : ℕ) (p : Place) (r : List ℕ) → PlaceShaped p → From xs (278 + 261 * i) (placeBytes p ++ r) → placeFrom xs i ≡ p
+unfolding placeBytes placeFrom
+place-read {xs} i p r h f =
+    let q = each bytes16 (p .ppns) ++ r in
+    let a = regroup (bytes32 (p .id) ++ (p .count ∷ (each bytes16 (p .lpns) ++ q))) f (simp append-assoc) in
+    let c = past (bytes32 (p .id)) (p .count ∷ (each bytes16 (p .lpns) ++ q)) 4 a refl in
+    let l = moved (278 + 261 * i + 5) (behind c) (omega arith) in
+    let m = moved (278 + 261 * i + 133) (past (each bytes16 (p .lpns)) q 128 l (length-halves (p .lpns) ∙ (let k = h .lpns in omega arith))) (omega arith) in
+    rw (word-read (p .id) (p .count ∷ (each bytes16 (p .lpns) ++ q)) a, byte-read c, halves-read (p .lpns) q l (h .lpns), halves-read (p .ppns) r m (h .ppns))
+
+length-place : (p : Place) → PlaceShaped p → length (placeBytes p) ≡ 261
+unfolding placeBytes
+length-place p h =
+    let k = h .lpns in
+    let m = h .ppns in
+    simp (length-append, length-halves) (omega arith)
+
+places-read : {xs : List ℕ} (ps : List Place) (i : ℕ) → PlacesShaped ps → From xs (278 + 261 * i) (each placeBytes ps) → placesIn xs (length ps + i) ≡ placesIn xs i ++ ps
+unfolding placesIn each
+places-read {xs} [] i h f = let z : 0 + i ≡ i = omega arith in ap (placesIn xs) z ∙ sym (append-nil (placesIn xs i))
+places-read {xs} (p ∷ ps) i h f =
+    let n : length (p ∷ ps) + i ≡ length ps + suc i = omega arith in
+    let g = moved (278 + 261 * suc i) (past (placeBytes p) (each placeBytes ps) 261 f (length-place p (h .0))) (omega arith) in
+    ap (placesIn xs) n ∙ places-read ps (suc i) (h .1) g ∙ ap (λ (q : Place). (placesIn xs i ++ (q ∷ [])) ++ ps) (place-read i p (each placeBytes ps) (h .0) f)
+    ∙ append-assoc (placesIn xs i) (p ∷ []) ps
+
+length-places : (ps : List Place) → PlacesShaped ps → length (each placeBytes ps) ≡ 261 * length ps
+unfolding each
+length-places [] h = refl
+length-places (p ∷ ps) h =
+    let e = length-place p (h .0) in
+    let k = length-places ps (h .1) in
+    length-append (placeBytes p) (each placeBytes ps) ∙ (omega arith)
+
+-- ---- the laws
+module _ (s : State) (h : Shaped s) where
+  -- what stands behind the geometry, the zones, the numbers, the front place and the work
+  fromWork : List ℕ
+  fromWork = kindOf (s .work) ∷ (bytes16 (strideOf (s .work)) ++ each placeBytes (s .places))
+
+  fromNumbers : List ℕ
+  fromNumbers = bytes32 (s .version) ++ (bytes32 (s .checkpoint) ++ (s .front ∷ s .first ∷ fromWork))
+
+  whole : From (bytesOf s) 0 (bytes16 (s .geometry .blocks) ++ (bytes16 (s .geometry .pages) ++ (bytes16 (s .geometry .logical) ++ (zoneBytes (s .zones) ++ fromNumbers))))
+  unfolding bytesOf fromNumbers fromWork
+  whole = record { is = simp append-assoc }
+
+  zones : From (bytesOf s) 6 (zoneBytes (s .zones) ++ fromNumbers)
+  zones = behind (behind (behind (behind (behind (behind whole)))))
+
+  length-zones : length (zoneBytes (s .zones)) ≡ 259
+  unfolding zoneBytes
+  length-zones =
+      let a = h .available in
+      let u = h .unavailable in
+      let f = h .free in
+      simp length-append (omega arith)
+
+  numbers : From (bytesOf s) 265 fromNumbers
+  numbers = past (zoneBytes (s .zones)) fromNumbers 259 zones length-zones
+
+  front : From (bytesOf s) 273 (s .front ∷ s .first ∷ fromWork)
+  unfolding fromNumbers
+  front = behind (behind (behind (behind (behind (behind (behind (behind numbers)))))))
+
+  work : From (bytesOf s) 275 (kindOf (s .work) ∷ (bytes16 (strideOf (s .work)) ++ each placeBytes (s .places)))
+  unfolding fromWork
+  work = behind (behind front)
+
+  places : From (bytesOf s) 278 (each placeBytes (s .places))
+  places = behind (behind (behind work))
+
+  all-places : placesIn (bytesOf s) 8 ≡ s .places
+  unfolding placesIn
+  all-places =
+      let k = h .places in
+      let n : 8 ≡ length (s .places) + 0 = omega arith in
+      ap (placesIn (bytesOf s)) n ∙ places-read (s .places) 0 (h .each) places
+
+  the-work : workFrom (getD (bytesOf s) 275 0) (le16 (bytesOf s) 276) ≡ s .work
+  the-work = rw (byte-read work, half-read (strideOf (s .work)) (each placeBytes (s .places)) (behind work)) (work-read (s .work))
+
+  -- the state is the one that was encoded
+  pub state-back : stateFrom (bytesOf s) ≡ s
+  unfolding stateFrom fromNumbers
+  state-back =
+      rw (
+        half-read _ _ whole,
+        half-read _ _ (behind (behind whole)),
+        half-read _ _ (behind (behind (behind (behind whole)))),
+        zones-read (s .zones) fromNumbers (h .available) (h .unavailable) (h .free) zones,
+        word-read (s .version) _ numbers,
+        word-read (s .checkpoint) _ (behind (behind (behind (behind numbers)))),
+        byte-read front,
+        byte-read (behind front),
+        the-work,
+        all-places,
+      )
+
+  length-bytes : length (bytesOf s) ≡ 2366
+  unfolding bytesOf
+  length-bytes =
+      let z = length-zones in
+      let p = length-places (s .places) (h .each) in
+      let k = h .places in
+      simp length-append (omega arith)
+
+  -- and its bytes encode one
+  pub coded-back : encodes (bytesOf s) ≡ true
+  unfolding encodes
+  coded-back = rw (eq-eqb _ _ length-bytes, byte-read work, half-read (strideOf (s .work)) (each placeBytes (s .places)) (behind work)) (work-coded (s .work))
+
+-- the state that format and recover start from is one of them
+pub fresh-shaped : (g : Geometry) → Shaped (freshState g)
+unfolding freshState
+fresh-shaped g = record { available = refl; unavailable = refl; free = refl; places = refl; each = (p, (p, (p, (p, (p, (p, (p, (p, tt)))))))) }
+  where
+    p : PlaceShaped freePlace
+    p = record { lpns = refl; ppns = refl }
