@@ -1,14 +1,13 @@
 -- What reclaim's strides may count on, and the refusal of copies due.
 use Prim.Native.Nat.{ℕ, _≤_, _<_}
 use mathlib.Core.Path.{_≡_}
-use mathlib.Core.Bool.{Bool, true, cond}
-use mathlib.Core.List.{List}
-use lib.ListN.{length, getD}
+use mathlib.Core.Bool.{true, cond}
+use mathlib.Core.List.{List, [], _∷_}
+use lib.ListN.{length, getD, set}
 use lib.Dec.{ltb}
 use Rattle.model.specs.Lists.{elem}
 use Rattle.model.specs.Geometry.{geometryOk, dataPage}
 use Rattle.model.specs.Zones.{cleanIn, availableOf, zonesOk}
-use Rattle.model.specs.Checkpoint as model
 use Rattle.model.specs.Transactions.{spent}
 use Rattle.model.specs.Strides.{mappedIn}
 use Rattle.model.specs.declared.State.{State}
@@ -23,15 +22,14 @@ pub record Counts (map : List ℕ) (p : ℕ) (counts : List ℕ) : Type 0 where
   pub all : length counts ≡ 128
   pub each : (b : ℕ) → b < 128 → getD counts b 0 ≡ mappedIn map p b
 
--- b has fewer mapped pages than the best so far, by the counts
-unfoldable pub fewerBy : List ℕ → ℕ → model.Found → Bool
-fewerBy counts b model.nothing = true
-fewerBy counts b (model.at a) = ltb (getD counts b 0) (getD counts a 0)
+-- every block of a list has a count
+abbrev pub InTable : List ℕ → Type 0
+InTable bs = (i : ℕ) → i < length bs → getD bs i 0 < 128
 
--- what was found is a block number
-abbrev pub Block : model.Found → Type 0
-Block model.nothing = 0 < 128
-Block (model.at b) = b < 128
+-- the counts with 65535 for each block that is listed
+unfoldable pub withListed : List ℕ → List ℕ → List ℕ
+withListed [] counts = counts
+withListed (b ∷ listed) counts = withListed listed (set counts b 65535)
 
 -- a state and a map among whose blocks one may be picked
 pub record Pickable (s : State) (map : List ℕ) : Type 0 where

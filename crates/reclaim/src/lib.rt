@@ -1,10 +1,10 @@
 // Reclaim: the block that it takes, and its strides.
 ghost use mathlib.Core.Path.{_≡_};
-ghost use mathlib.Core.Bool.{true, not, cond, _&&_};
+ghost use mathlib.Core.Bool.{true};
 ghost use Prim.Native.Nat.{_-_, _≤_, _<_};
 ghost use lib.ListN.{length};
 ghost use lib.Dec.{eqb};
-ghost use Rattle.model.specs.Lists.{find, elem};
+ghost use Rattle.model.specs.Lists.{find};
 ghost use Rattle.model.specs.Geometry.{dataBlock};
 ghost use Rattle.model.specs.Zones.{checkpointed};
 ghost use Rattle.zones.specs.Judging.{Ready};
@@ -14,7 +14,7 @@ ghost use Rattle.model.specs.World.{World};
 ghost use Rattle.model.specs.Strides.{mappedIn, pickFrom, lowestFrom, isReclaim, copyStride, freeStride, reclaimStride};
 ghost use Rattle.checkpoint.specs.Found.{foundOf};
 ghost use Rattle.strides.specs.Strode.{Strode, Fit};
-ghost use Rattle.reclaim.specs.Copies.{copiesNumber, fewerBy, Counts, Block, Pickable, Copying};
+ghost use Rattle.reclaim.specs.Copies.{copiesNumber, Counts, InTable, withListed, Pickable, Copying};
 use checkpoint::Found;
 use model::Answer;
 use model::Refusal;
@@ -22,6 +22,9 @@ use model::Spare;
 use model::State;
 use model::Work;
 use strides::Stride;
+
+/// What stands for a listed block among the counts: no block has as many mapped pages.
+const LISTED: u16 = 0xFFFF;
 
 /// Whether the work under way is a reclaim.
 pub fn is_reclaim(work: Work) -> bool
@@ -61,14 +64,14 @@ fn mapped_in(map: &[u16], pages: usize, b: usize) -> usize
 }
 
 /// The mapped pages of each block.
-fn mapped(map: &[u16], pages: usize) -> [u16; 128]
+fn mapped(map: &[u16], pages: u16) -> [u16; 128]
     requires { ⌜ (length (now map) ≤ 1024) × (0 < pages) ⌝ }
     ensures { λ r. ⌜ Counts (now (map .entry)) pages r ⌝ }
 {
     let mut counts = [0u16; 128];
     let mut i: usize = 0;
     while i < map.len() {
-        let b = (map[i] as usize) / pages;
+        let b = (map[i] / pages) as usize;
         if b >= 128 {
             i += 1;
             continue;
@@ -79,29 +82,19 @@ fn mapped(map: &[u16], pages: usize) -> [u16; 128]
     counts
 }
 
-/// Whether block b has fewer mapped pages than the best so far.
-fn is_fewer(counts: [u16; 128], b: usize, best: Found) -> bool
-    requires { ⌜ (b < 128) × Block (foundOf best) ⌝ }
-    ensures { λ r. ⌜ r ≡ fewerBy counts b (foundOf best) ⌝ }
+/// The counts with LISTED for each block that is listed.
+fn with_listed(counts: [u16; 128], listed: &[u8]) -> [u16; 128]
+    requires { ⌜ InTable (now listed) ⌝ }
+    ensures { λ r. ⌜ r ≡ withListed (now (listed .entry)) counts ⌝ }
 {
-    match best {
-        Found::Nothing => true,
-        Found::At(a) => counts[b] < counts[a],
+    let mut table = counts;
+    let mut i: usize = 0;
+    while i < listed.len() {
+        let b = listed[i] as usize;
+        table[b] = LISTED;
+        i += 1;
     }
-}
-
-/// The better of the best so far and of block b, if it is checkpointed.
-fn better(listed: &[u8], counts: [u16; 128], b: usize, best: Found) -> Found
-    requires { ⌜ (b < 128) × Block (foundOf best) ⌝ }
-    ensures { λ r. ⌜ foundOf r ≡ cond (not (elem b (now (listed .entry))) && fewerBy counts b (foundOf best)) (at b) (foundOf best) ⌝ }
-{
-    if blocks::has(listed, b as u8) {
-        return best;
-    }
-    if is_fewer(counts, b, best) {
-        return Found::At(b);
-    }
-    best
+    table
 }
 
 /// The checkpointed block with fewest mapped pages, the lowest of them.
@@ -114,11 +107,17 @@ pub fn picked(s: State, map: &[u16]) -> Found
     let list = all.list;
     let n = all.n;
     let last = s.geometry.blocks as usize;
-    let counts = mapped(map, s.geometry.pages as usize);
+    let counts = with_listed(mapped(map, s.geometry.pages), &list[..n]);
+    let mut least = LISTED;
     let mut best = Found::Nothing;
     let mut b: usize = 2;
     while b < last {
-        best = better(&list[..n], counts, b, best);
+        if counts[b] >= least {
+            b += 1;
+            continue;
+        }
+        least = counts[b];
+        best = Found::At(b);
         b += 1;
     }
     best

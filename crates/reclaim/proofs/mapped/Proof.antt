@@ -2,7 +2,8 @@
 use mathlib.Core.Path.{refl}
 use Prim.Native.Nat.{_-_, _≤_}
 use native.Mathlib.Omega.{arith}
-use lib.ListN.{length}
+use native.Mathlib.Nat.{div-le-self}
+use lib.ListN.{length, getD}
 use Rattle.reclaim.proofs.Counting.{Sums, sums-none, sums-skip, sums-more, sums-end, sum-few}
 use Rattle.reclaim.proofs.mapped.Statement.{statement}
 use Rattle.reclaim.proofs.mapped.Tie as tie
@@ -22,11 +23,14 @@ mul-b c = omega arith
 shared-slice-read-b : tie.Need-shared-slice-read-b Inv-loop μ-loop
 shared-slice-read-b c = omega arith
 
-cast-b : tie.Need-cast-b Inv-loop μ-loop
-cast-b c = omega (arith, c .shared-slice-known .given (c .before .before .loop .i))
-
 div-b : tie.Need-div-b Inv-loop μ-loop
 div-b c = omega arith
+
+cast-b : tie.Need-cast-b Inv-loop μ-loop
+cast-b c =
+    let l = c .before .before in
+    let a = l .before .args in
+    omega (arith, c .shared-slice-known .given (l .loop .i), div-le-self (getD (a .map .now) (l .loop .i) 0) (a .pages))
 
 add-i : tie.Need-add-i Inv-loop μ-loop
 add-i c = omega arith
@@ -92,8 +96,8 @@ mapped-spec =
     loop-holds
     mul-b
     shared-slice-read-b
-    cast-b
     div-b
+    cast-b
     add-i
     loop-less
     loop-again
