@@ -36,7 +36,8 @@ pub fn zone_short(s: State, array: &[u8]) -> bool
     let z = s.zones;
     let a = z.available;
     let n = z.na as usize;
-    flash::clean_in(array, s.geometry.pages as usize, &a[..n]) <= s.geometry.pages as usize
+    let pages = s.geometry.pages as usize;
+    flash::clean_short(array, pages, &a[..n], pages + 1)
 }
 
 /// The spare area of a data page.

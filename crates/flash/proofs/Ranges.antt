@@ -1,4 +1,4 @@
--- The blocks of valid zone lists lie in the array: what `clean_in` and `next_in` require of the available zone. Assumes nothing.
+-- The blocks of valid zone lists lie in the array: what `clean_short` and `next_in` require of the available zone. Assumes nothing.
 use mathlib.Core.Path.{_≡_}
 use mathlib.Core.Bool.{true, not, _&&_}
 use mathlib.Core.List.{List, [], _++_}

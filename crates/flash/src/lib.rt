@@ -1,8 +1,9 @@
 // The lent array: pages and blocks in it by number, and the single program or erase of a call.
 // Every function requires that the pages which it looks at or changes lie in the array.
 ghost use mathlib.Core.Path.{_≡_};
-ghost use Prim.Native.Nat.{_+_, _*_, _≤_};
+ghost use Prim.Native.Nat.{_+_, _-_, _*_, _≤_};
 ghost use lib.ListN.{length};
+ghost use lib.Dec.{ltb};
 ghost use Rattle.model.specs.Page.{isWhole, spareOf, pageBytes, pageAt, blankAt, wholeAt};
 ghost use Rattle.model.specs.Zones.{usedIn, cleanIn, nextIn};
 ghost use Rattle.model.specs.World.{applyOp, erase};
@@ -93,18 +94,39 @@ pub fn used_in(array: &[u8], pages: usize, b: usize) -> usize
     0
 }
 
-/// The clean pages of some blocks.
-pub fn clean_in(array: &[u8], pages: usize, blocks: &[u8]) -> usize
-    requires { ⌜ Within (length (now array)) pages (now blocks) ⌝ }
-    ensures { λ r. ⌜ r ≡ cleanIn (now (array .entry)) pages (now (blocks .entry)) ⌝ }
+/// What is still due of some clean pages beside those of block b. These are counted from its end, no further than is due.
+fn still_due(array: &[u8], pages: usize, b: usize, due: usize) -> usize
+    requires { ⌜ b * pages * 528 + pages * 528 ≤ length (now array) ⌝ }
+    ensures { λ r. ⌜ r ≡ due - (pages - usedIn (now (array .entry)) pages b) ⌝ }
 {
-    let mut n = 0;
+    let first = b * pages;
+    let mut n = pages;
+    let mut left = due;
+    while 0 < left {
+        if n == 0 {
+            return left;
+        }
+        n -= 1;
+        if !is_blank(array, first + n) {
+            return left;
+        }
+        left -= 1;
+    }
+    0
+}
+
+/// Whether some blocks have fewer clean pages than `least`. They are counted no further than that.
+pub fn clean_short(array: &[u8], pages: usize, blocks: &[u8], least: usize) -> bool
+    requires { ⌜ Within (length (now array)) pages (now blocks) ⌝ }
+    ensures { λ r. ⌜ r ≡ ltb (cleanIn (now (array .entry)) pages (now (blocks .entry))) least ⌝ }
+{
+    let mut due = least;
     let mut i = 0;
     while i < blocks.len() {
-        n += pages - used_in(array, pages, wide(blocks[i]));
+        due = still_due(array, pages, wide(blocks[i]), due);
         i += 1;
     }
-    n
+    0 < due
 }
 
 /// The page to be taken next: the first clean one of the first block that has any; 0 where none has.

@@ -219,7 +219,7 @@ fn copies_refused(s: State, array: &[u8], due: usize) -> u8
     let z = s.zones;
     let a = z.available;
     let na = z.na as usize;
-    if flash::clean_in(array, s.geometry.pages as usize, &a[..na]) < due {
+    if flash::clean_short(array, s.geometry.pages as usize, &a[..na], due) {
         return 16;
     }
     0

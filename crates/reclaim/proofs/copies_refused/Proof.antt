@@ -8,16 +8,15 @@ use Rattle.zones.proofs.Listed.{ready-listed, available-within}
 use Rattle.reclaim.specs.Copies.{copiesNumber}
 use Rattle.reclaim.proofs.copies_refused.Reads as reads
 use Rattle.reclaim.proofs.copies_refused.Lts as lts
-use Rattle.flash.proofs.clean_in.Reads as clean-in-reads
+use Rattle.flash.proofs.clean_short.Reads as clean-short-reads
 use borrow.Author.Needs.{needs}
 use Rattle.reclaim.proofs.copies_refused.Statement.{statement}
 use Rattle.reclaim.proofs.copies_refused.Tie as tie
 
 -- what the type of the state says of its available list
-available-long : (s : lts.Start (clean-in-reads.Asked, clean-in-reads.Learnt) reads.Pre reads.Post) → length (s .args .s .zones .available) ≡ 3
+available-long : (s : lts.Start (clean-short-reads.Asked, clean-short-reads.Learnt) reads.Pre reads.Post) → length (s .args .s .zones .available) ≡ 3
 available-long s = search needs
 
--- what the type of the state says of its available list
 cast-if1 : tie.Need-cast-if1
 cast-if1 c = search needs
 
@@ -34,8 +33,8 @@ returns c = simp (lt-ltb _ _ (c .if1 .taken))
 cast-na : tie.Need-cast-na
 cast-na c = search needs
 
-cast-clean-in : tie.Need-cast-clean-in
-cast-clean-in c = search needs
+cast-clean-short : tie.Need-cast-clean-short
+cast-clean-short c = search needs
 
 array-share-prefix-a : tie.Need-array-share-prefix-a
 array-share-prefix-a c =
@@ -44,23 +43,23 @@ array-share-prefix-a c =
     let k = ready-listed _ _ _ (s .pre .0) .few in
     omega arith
 
-slice-aggregate-clean-in : tie.Need-slice-aggregate-clean-in
-slice-aggregate-clean-in c =
+slice-aggregate-clean-short : tie.Need-slice-aggregate-clean-short
+slice-aggregate-clean-short c =
     let s = c .before .before .before .before .before .before .before .before in
     let l = available-long s in
     let k = ready-listed _ _ _ (s .pre .0) .few in
     sym (length-take-le (s .args .s .zones .na) (s .args .s .zones .available) (omega arith))
 
-clean-in-requires : tie.Need-clean-in-requires
-clean-in-requires c κs = available-within _ _ _ (c .before .before .before .before .before .before .before .before .pre .0)
+clean-short-requires : tie.Need-clean-short-requires
+clean-short-requires c κs = available-within _ _ _ (c .before .before .before .before .before .before .before .before .pre .0)
 
 returns-2 : tie.Need-returns-2
 unfolding copiesNumber
-returns-2 c = simp (le-ltb _ _ (c .before .before .before .before .before .before .before .if1 .left), ← c .before .clean-in .ensures, lt-ltb _ _ (c .if2 .taken))
+returns-2 c = simp (le-ltb _ _ (c .before .before .before .before .before .before .before .if1 .left), ← c .before .clean-short .ensures, c .if2 .taken)
 
 returns-3 : tie.Need-returns-3
 unfolding copiesNumber
-returns-3 c = simp (le-ltb _ _ (c .before .before .before .before .before .before .before .if1 .left), ← c .before .clean-in .ensures, le-ltb _ _ (c .if2 .left))
+returns-3 c = simp (le-ltb _ _ (c .before .before .before .before .before .before .before .if1 .left), ← c .before .clean-short .ensures, c .if2 .left)
 
 pub copies-refused-spec : {M : Type 1} → statement M
 copies-refused-spec =
@@ -71,9 +70,9 @@ copies-refused-spec =
     cast-if1-2
     returns
     cast-na
-    cast-clean-in
+    cast-clean-short
     array-share-prefix-a
-    slice-aggregate-clean-in
-    clean-in-requires
+    slice-aggregate-clean-short
+    clean-short-requires
     returns-2
     returns-3)
