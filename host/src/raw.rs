@@ -65,7 +65,18 @@ pub fn reclaim(s: &mut Store) -> u8 {
 pub fn read(s: &Store, lpn: u16) -> (u8, usize) {
     let mut at = 0;
     let answer = unsafe {
-        bokuhira_read(s.array.as_ptr(), s.array.len(), s.map.as_ptr(), s.map.len(), s.hold.as_ptr(), s.hold.len(), s.state.as_ptr(), s.state.len(), &mut at, lpn)
+        bokuhira_read(
+            s.array.as_ptr(),
+            s.array.len(),
+            s.map.as_ptr(),
+            s.map.len(),
+            s.hold.as_ptr(),
+            s.hold.len(),
+            s.state.as_ptr(),
+            s.state.len(),
+            &mut at,
+            lpn,
+        )
     };
     (answer, at)
 }

@@ -272,8 +272,7 @@ impl Maker {
     }
 
     fn call_of(&mut self, world: &Store, g: Geometry, kind: usize) -> Call {
-        let active: Vec<u32> =
-            State::decode(&world.state).map_or(Vec::new(), |s| s.places.iter().map(|p| p.id).filter(|id| *id != 0).collect());
+        let active: Vec<u32> = State::decode(&world.state).map_or(Vec::new(), |s| s.places.iter().map(|p| p.id).filter(|id| *id != 0).collect());
         let id = if active.is_empty() || self.rng.once_in(5) { self.id() } else { *self.rng.pick(&active) };
         let lpn = if self.rng.once_in(30) { self.rng.next() as u16 } else { self.below(g.logical as usize) as u16 };
         let n = if self.rng.once_in(30) { self.below(1030) } else { DATA };

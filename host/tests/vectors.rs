@@ -8,8 +8,7 @@ use common::{due_bits, formatted, say, spare, whole_page, Layer, LAYERS};
 use std::collections::BTreeMap;
 use std::path::PathBuf;
 
-const KINDS: [(Kind, &str); 4] =
-    [(Kind::Idle, "idle"), (Kind::Format, "format"), (Kind::Checkpoint, "checkpoint"), (Kind::Reclaim, "reclaim")];
+const KINDS: [(Kind, &str); 4] = [(Kind::Idle, "idle"), (Kind::Format, "format"), (Kind::Checkpoint, "checkpoint"), (Kind::Reclaim, "reclaim")];
 
 /// 64-bit FNV-1a.
 fn fnv(bytes: impl IntoIterator<Item = u8>) -> u64 {
@@ -172,9 +171,7 @@ fn op_agrees(before: &[u8], after: &[u8], op: &str, pages: usize) -> bool {
         }
         other => panic!("no operation {other}"),
     };
-    before[..range.start] == after[..range.start]
-        && before[range.end..] == after[range.end..]
-        && inside(&before[range.clone()], &after[range])
+    before[..range.start] == after[..range.start] && before[range.end..] == after[range.end..] && inside(&before[range.clone()], &after[range])
 }
 
 /// What a call line leaves, where that is not what the trace says.
@@ -246,8 +243,7 @@ fn replay(layer: Layer, name: &str, text: &str) -> usize {
             "map" => w.map[n(1)] = number(words[2]),
             "byte" => w.array[n(1)] = number(words[2]),
             "page" => {
-                let made =
-                    spare(number(words[3]), number(words[4]), number(words[5]), number(words[6]), number(words[7]), number(words[8]));
+                let made = spare(number(words[3]), number(words[4]), number(words[5]), number(words[6]), number(words[7]), number(words[8]));
                 w.array[n(1) * PAGE..][..PAGE].copy_from_slice(&whole_page(&data_of(words[2]), &made));
             }
             "raw" => {
@@ -313,8 +309,7 @@ fn traces_replay() {
 #[test]
 fn a_state_of_another_length_is_a_bad_frame() {
     let g = Geometry::new(8, 8, 16);
-    let calls =
-        ["format 8 8 16", "recover 8 8 16", "begin 5", "write 5 0 1", "lone 0 1", "commit 5", "abort 5", "read 0", "checkpoint", "reclaim"];
+    let calls = ["format 8 8 16", "recover 8 8 16", "begin 5", "write 5 0 1", "lone 0 1", "commit 5", "abort 5", "read 0", "checkpoint", "reclaim"];
     for layer in LAYERS {
         let mut live = formatted(g);
         assert_eq!(layer.call(&mut live, &call_of(&["lone", "0", "1"])), 0);

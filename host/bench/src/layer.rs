@@ -36,8 +36,11 @@ impl Layer {
 }
 
 /// Small, middle and large.
-pub const GEOMETRIES: [Geometry; 3] =
-    [Geometry { blocks: 8, pages: 8, logical: 16 }, Geometry { blocks: 64, pages: 32, logical: 1024 }, Geometry { blocks: 128, pages: 64, logical: 1024 }];
+pub const GEOMETRIES: [Geometry; 3] = [
+    Geometry { blocks: 8, pages: 8, logical: 16 },
+    Geometry { blocks: 64, pages: 32, logical: 1024 },
+    Geometry { blocks: 128, pages: 64, logical: 1024 },
+];
 
 pub fn name(g: Geometry) -> String {
     format!("{} × {} × {}", g.blocks, g.pages, g.logical)

@@ -100,9 +100,12 @@ impl Layout {
                 <text x=\"24\" y=\"14\" font-size=\"12\">{one}</text><text x=\"24\" y=\"29\" font-size=\"11.5\">{two}</text>"
                 .into(),
             Detail::OneLine => {
-                "<text class=\"l\" x=\"4\" y=\"14\" font-size=\"13\">{letter}</text><text x=\"19\" y=\"13\" font-size=\"9.5\">{one} {two}</text>".into()
+                "<text class=\"l\" x=\"4\" y=\"14\" font-size=\"13\">{letter}</text><text x=\"19\" y=\"13\" font-size=\"9.5\">{one} {two}</text>"
+                    .into()
             }
-            Detail::Short => "<text class=\"l\" x=\"4\" y=\"15\" font-size=\"13\">{letter}</text><text x=\"18\" y=\"14\" font-size=\"10.5\">{nr}</text>".into(),
+            Detail::Short => {
+                "<text class=\"l\" x=\"4\" y=\"15\" font-size=\"13\">{letter}</text><text x=\"18\" y=\"14\" font-size=\"10.5\">{nr}</text>".into()
+            }
             Detail::Letter => format!("<text class=\"l\" x=\"{}\" y=\"16\" font-size=\"15\" text-anchor=\"middle\">{{letter}}</text>", w / 2.0),
         };
         format!(
@@ -258,12 +261,18 @@ fn picture(layout: &Layout, title: &str, zones: &[(&str, String)], cells: &str, 
     text += &ticks(layout);
     let (middle, tip) = (w / 2.0, if layout.detail == Detail::Letter { layout.top - 36.0 } else { layout.top - 42.0 });
     let shape = format!("M{} {}H{}L{middle} {tip}Z", middle - 6.0, tip - 12.0, middle + 6.0);
-    text += &format!("<path id=\"pointer\" class=\"pointer\" d=\"{shape}\" transform=\"translate({},0)\"/>", layout.left + pointer as f64 * layout.column);
+    text += &format!(
+        "<path id=\"pointer\" class=\"pointer\" d=\"{shape}\" transform=\"translate({},0)\"/>",
+        layout.left + pointer as f64 * layout.column
+    );
     text += &format!("<g id=\"cells\">{cells}</g>\n");
     let (x, y) = next.map_or((0.0, 0.0), |k| layout.at(k));
     let hidden = if next.is_some() { "" } else { " style=\"display:none\"" };
-    text +=
-        &format!("<rect id=\"next\" class=\"next\" x=\"1\" y=\"1\" width=\"{}\" height=\"{}\" transform=\"translate({x},{y})\"{hidden}/>", w - 2.0, h - 2.0);
+    text += &format!(
+        "<rect id=\"next\" class=\"next\" x=\"1\" y=\"1\" width=\"{}\" height=\"{}\" transform=\"translate({x},{y})\"{hidden}/>",
+        w - 2.0,
+        h - 2.0
+    );
     text + &legend(layout) + "</svg>\n"
 }
 

@@ -32,7 +32,11 @@ pub const GROUPS: [(&str, &[Word]); 4] = [
     (
         "Power",
         &[
-            word("cut", "cut [CALL / HOW]", "the power fails in that call, with the bits that HOW names turned; alone, between two calls ('help how')"),
+            word(
+                "cut",
+                "cut [CALL / HOW]",
+                "the power fails in that call, with the bits that HOW names turned; alone, between two calls ('help how')",
+            ),
             word("dark", "dark [map=N hold=N]", "as a cut between two calls; the lost map and hold are filled with these numbers"),
             word(
                 "sweep",
@@ -44,7 +48,11 @@ pub const GROUPS: [(&str, &[Word]); 4] = [
     (
         "Looking",
         &[
-            word("show", "show zones|block N|page N|map|changes|transactions|book|checkpoints|cut|cut bits|all", "prints it ('help pages' explains the words)"),
+            word(
+                "show",
+                "show zones|block N|page N|map|changes|transactions|book|checkpoints|cut|cut bits|all",
+                "prints it ('help pages' explains the words)",
+            ),
             word("draw", "draw FILE.svg or draw FILE.html", "the flash as a picture; the page has a slider through all steps up to now"),
             word("report", "report [FILE]", "what the program report prints for this flash; with a file, compared with it"),
             word("geometry", "geometry", "the size of this flash"),
@@ -56,7 +64,11 @@ pub const GROUPS: [(&str, &[Word]); 4] = [
     (
         "Images and worlds",
         &[
-            word("import", "import FILE [BLOCKS PAGES LOGICAL]", "a dump as the flash; without numbers the file must begin with the three lines of report"),
+            word(
+                "import",
+                "import FILE [BLOCKS PAGES LOGICAL]",
+                "a dump as the flash; without numbers the file must begin with the three lines of report",
+            ),
             word("export", "export FILE [raw]", "writes the flash, with the three lines of report before it unless raw"),
             word("blank", "blank BLOCKS PAGES LOGICAL", "a new flash of zero bytes, not formatted"),
             word("keep", "keep", "remembers the world; until 'back' each call starts from the world as it stands then"),

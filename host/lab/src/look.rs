@@ -106,9 +106,11 @@ fn group(view: &View, pages: &[Page], k: usize) -> Group {
     let front = 2 * view.geometry.pages as usize;
     match p.is_whole() {
         false => Group::None,
-        true if k < front => {
-            view.checkpoints.iter().find(|c| (c.first..=c.first + view.geometry.map_pages()).contains(&k)).map_or(Group::None, |c| Group::Checkpoint(c.first))
-        }
+        true if k < front => view
+            .checkpoints
+            .iter()
+            .find(|c| (c.first..=c.first + view.geometry.map_pages()).contains(&k))
+            .map_or(Group::None, |c| Group::Checkpoint(c.first)),
         true if p.id == 0 => Group::Lone,
         true => Group::Change(p.id),
     }
@@ -134,7 +136,9 @@ pub fn words(world: &World, k: usize) -> Words {
     let p = &world.pages.list[k];
     match (p.class, p.kind) {
         (Class::Erased, _) => Words::default(),
-        (Class::Torn, _) => Words { one: "torn".into(), two: "nobody's".into(), tell: format!("torn; Zeros {}, counted {}", p.zeros, p.counted), id: 0 },
+        (Class::Torn, _) => {
+            Words { one: "torn".into(), two: "nobody's".into(), tell: format!("torn; Zeros {}, counted {}", p.zeros, p.counted), id: 0 }
+        }
         (Class::Whole, kind) => {
             let (one, two) = match (kind, p.id, p.cnt) {
                 (1, ..) => (format!("map {}", p.lpn), format!("checkpt {}", p.ver)),

@@ -87,7 +87,11 @@ fn run(script: &str, pictures: &[String]) -> Result<(), String> {
             Ok(Next::On) => (),
             Ok(Next::Quit) => break,
             Err(e) => {
-                done = Err(format!("{script}: line {}: {e}\n{script}: stopped there; {} carried out before it", at + 1, show::plural(session.done, "command")));
+                done = Err(format!(
+                    "{script}: line {}: {e}\n{script}: stopped there; {} carried out before it",
+                    at + 1,
+                    show::plural(session.done, "command")
+                ));
                 break;
             }
         }

@@ -179,7 +179,10 @@ impl Words<'_> {
         let n = |i: usize, what: &str| self.number(at + i, what, 0xFFFF).map(|v| v as u16);
         let g = Geometry::new(n(0, "number of blocks")?, n(1, "number of pages")?, n(2, "number of logical pages")?);
         if g.array_len() > 64 << 20 {
-            return Err(format!("{} blocks of {} pages are more than the lab has room for: at most 128 blocks of 64 pages are allowed", g.blocks, g.pages));
+            return Err(format!(
+                "{} blocks of {} pages are more than the lab has room for: at most 128 blocks of 64 pages are allowed",
+                g.blocks, g.pages
+            ));
         }
         Ok(g)
     }
@@ -277,7 +280,10 @@ impl Words<'_> {
         }
         match self.call(at, end)? {
             Some(call) => Ok(call),
-            None => Err(format!("{} is no call: begin, write, lone, commit, abort, read, checkpoint, reclaim, format or recover is expected", self.shown(at))),
+            None => Err(format!(
+                "{} is no call: begin, write, lone, commit, abort, read, checkpoint, reclaim, format or recover is expected",
+                self.shown(at)
+            )),
         }
     }
 
@@ -305,7 +311,10 @@ impl Words<'_> {
             (Some("last"), 2) => Ok(How::Last(self.amount(at + 1)?)),
             (Some("but"), 2) if self.word(at + 1) == Some("last") => Ok(How::ButLast),
             (Some("but"), 2) => Ok(How::But(bits(1)?)),
-            _ => Err("behind / is expected which due bits are turned: none, all, first N, last N, first N%, last N%, but N, but last or every N R".into()),
+            _ => {
+                Err("behind / is expected which due bits are turned: none, all, first N, last N, first N%, last N%, but N, but last or every N R"
+                    .into())
+            }
         }
     }
 
@@ -355,8 +364,8 @@ impl Words<'_> {
             ("raw", 3) => {
                 let at = self.number(1, "page number", 0xFFFF)? as usize;
                 let hex = self.word(2).unwrap_or("");
-                let bytes: Option<Vec<u8>> =
-                    (hex.len() == 2 * PAGE && hex.is_ascii()).then(|| (0..PAGE).filter_map(|i| u8::from_str_radix(&hex[2 * i..2 * i + 2], 16).ok()).collect());
+                let bytes: Option<Vec<u8>> = (hex.len() == 2 * PAGE && hex.is_ascii())
+                    .then(|| (0..PAGE).filter_map(|i| u8::from_str_radix(&hex[2 * i..2 * i + 2], 16).ok()).collect());
                 match bytes {
                     Some(bytes) if bytes.len() == PAGE => Ok(Command::Page { at, bytes }),
                     _ => Err(format!("a raw page is {} hexadecimal digits", 2 * PAGE)),

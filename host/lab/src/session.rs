@@ -51,7 +51,9 @@ impl Session {
                 self.record(words, "");
             }
             Command::Call(call) => say(&format!("{}\n", self.with_flash(call, |s| s.call(text, call, line.expected.as_deref()))?))?,
-            Command::FormatToTheEnd(g) => say(&format!("{}\n", self.with_flash(&Call::Format(*g), |s| s.format(text, *g, line.expected.as_deref()))?))?,
+            Command::FormatToTheEnd(g) => {
+                say(&format!("{}\n", self.with_flash(&Call::Format(*g), |s| s.format(text, *g, line.expected.as_deref()))?))?
+            }
             Command::UntilDone(call) => {
                 if self.kept.is_some() {
                     return Err("between keep and back each call starts anew: until-done has no end there".into());
@@ -98,7 +100,8 @@ impl Session {
             Command::Export { file, raw } => {
                 let world = self.world_mut()?;
                 let g = world.geometry;
-                let mut bytes = if *raw { Vec::new() } else { format!("blocks={}\npages={}\nlogical={}\n", g.blocks, g.pages, g.logical).into_bytes() };
+                let mut bytes =
+                    if *raw { Vec::new() } else { format!("blocks={}\npages={}\nlogical={}\n", g.blocks, g.pages, g.logical).into_bytes() };
                 bytes.extend(&world.store.array);
                 write(file, &bytes)?;
                 say(&format!("{text}: {} bytes written\n", bytes.len()))?;
@@ -213,7 +216,14 @@ impl Session {
         }
         let said = match answer {
             Answer::Done => {
-                format!("{}; {}, {} blocks of {} pages, {} logical pages", answer_words(answer), plural(strides, "stride"), g.blocks, g.pages, g.logical)
+                format!(
+                    "{}; {}, {} blocks of {} pages, {} logical pages",
+                    answer_words(answer),
+                    plural(strides, "stride"),
+                    g.blocks,
+                    g.pages,
+                    g.logical
+                )
             }
             _ => {
                 let said = call_line(text, world, &call, answer, Op::Nothing);
@@ -238,7 +248,9 @@ impl Session {
         let turned = format!("{} of {} turned", cut.turned_count(), plural(cut.due.len(), "due bit"));
         let said = match cut.op {
             Op::Nothing => "power lost; no bit was due".into(),
-            Op::Program(k) => format!("power lost in the program of {}; {turned}; the page is {}", page_name(world, k), world.pages.list[k].class.word()),
+            Op::Program(k) => {
+                format!("power lost in the program of {}; {turned}; the page is {}", page_name(world, k), world.pages.list[k].class.word())
+            }
             Op::Erase(b) => format!("power lost in the erase of block {b}; {turned}"),
         };
         self.record(text, &said);
@@ -342,7 +354,12 @@ pub fn report(world: &World) -> String {
         Some(s) if answer == Answer::Done => {
             let z = &s.zones;
             let (a, u, f) = (trace::commas(&z.available), trace::commas(&z.unavailable), trace::commas(&z.free));
-            format!("answer=0\ncheckpoint={}\nversion={}\navailable={a}\nunavailable={u}\nfree={f}\nmapped={}\n", s.checkpoint, s.version, copy.mapped_count())
+            format!(
+                "answer=0\ncheckpoint={}\nversion={}\navailable={a}\nunavailable={u}\nfree={f}\nmapped={}\n",
+                s.checkpoint,
+                s.version,
+                copy.mapped_count()
+            )
         }
         _ => format!("answer={}\n", answer.number()),
     }

@@ -79,7 +79,12 @@ pub fn call_line(text: &str, world: &World, call: &Call, answer: Answer, op: Op)
         (Call::Write { .. }, Answer::Done) => parts.push("held".into()),
         (Call::Recover(_), Answer::Done) => {
             if let Some(s) = world.state() {
-                parts.push(format!("checkpoint {}, last version {}, {} mapped", s.checkpoint, s.version, plural(world.mapped_count(), "logical page")));
+                parts.push(format!(
+                    "checkpoint {}, last version {}, {} mapped",
+                    s.checkpoint,
+                    s.version,
+                    plural(world.mapped_count(), "logical page")
+                ));
             }
         }
         (_, Answer::More) if op == Op::Nothing => parts.push("a block erased that was so before".into()),
@@ -316,7 +321,8 @@ fn transactions(world: &World, view: &View) -> String {
             (None, fate) => format!("no mark: {}", fate.word()),
             (Some(m), fate) => format!("its mark says {} (version {}): {}", m.cnt, m.ver, fate.word()),
         };
-        text += &format!("  identifier {id}: {counted} counted, {verdict}; in {}\n", pages.iter().map(usize::to_string).collect::<Vec<_>>().join(" "));
+        text +=
+            &format!("  identifier {id}: {counted} counted, {verdict}; in {}\n", pages.iter().map(usize::to_string).collect::<Vec<_>>().join(" "));
     }
     if found.is_empty() && lone == 0 {
         text += "  none\n";
@@ -356,7 +362,8 @@ fn book(world: &World) -> String {
     }
     for c in &book.open {
         let writes: Vec<String> = c.writes.iter().map(|(lpn, data)| format!("LPN {lpn} {}", data_words(data))).collect();
-        text += &format!("  open in the book: identifier {}: {}\n", c.id, if writes.is_empty() { "nothing written".into() } else { writes.join(", ") });
+        text +=
+            &format!("  open in the book: identifier {}: {}\n", c.id, if writes.is_empty() { "nothing written".into() } else { writes.join(", ") });
     }
     if !lost {
         text += &match book.pages.len() - same {
@@ -383,7 +390,9 @@ fn cut(world: &World, c: &Cut, bits: bool) -> String {
     let mut text = format!("{}\n", c.what);
     match c.op {
         Op::Nothing => return text + "  no bit was due: nothing was being programmed or erased\n",
-        Op::Program(k) => text += &format!("  in the program of {}: {} of {} turned\n", page_name(world, k), c.turned_count(), plural(c.due.len(), "due bit")),
+        Op::Program(k) => {
+            text += &format!("  in the program of {}: {} of {} turned\n", page_name(world, k), c.turned_count(), plural(c.due.len(), "due bit"))
+        }
         Op::Erase(b) => text += &format!("  in the erase of block {b}: {} of {} turned\n", c.turned_count(), plural(c.due.len(), "due bit")),
     }
     let count = |from: usize, to: usize| {
@@ -417,8 +426,9 @@ fn cut(world: &World, c: &Cut, bits: bool) -> String {
         }
         for group in lines.chunk_by(|a, b| a.0 / 8 == b.0 / 8) {
             let at = group[0].0 / 8 * 8;
-            let shown: Vec<String> =
-                (at..at + 8).map(|i| group.iter().find(|(b, _)| *b == i).map_or("........".into(), |(_, l)| String::from_utf8_lossy(l).into_owned())).collect();
+            let shown: Vec<String> = (at..at + 8)
+                .map(|i| group.iter().find(|(b, _)| *b == i).map_or("........".into(), |(_, l)| String::from_utf8_lossy(l).into_owned()))
+                .collect();
             text += &format!("  page {:4} byte {:3}  {}\n", at / PAGE, at % PAGE, shown.join(" "));
         }
     }

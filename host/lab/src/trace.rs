@@ -80,7 +80,12 @@ pub fn state_of(words: &[&str]) -> Option<State> {
     }
     Some(State {
         geometry: Geometry::new(n(0)?, n(1)?, n(2)?),
-        zones: Zones { available: list("available")?, unavailable: list("unavailable")?, free: list("free")?, pointer: fields.get("pointer")?.parse().ok()? },
+        zones: Zones {
+            available: list("available")?,
+            unavailable: list("unavailable")?,
+            free: list("free")?,
+            pointer: fields.get("pointer")?.parse().ok()?,
+        },
         version: fields.get("version")?.parse().ok()?,
         checkpoint: fields.get("checkpoint")?.parse().ok()?,
         front: front.parse().ok()?,

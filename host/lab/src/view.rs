@@ -104,7 +104,9 @@ impl View {
         let newest = (0..checkpoints.len()).rev().max_by_key(|i| checkpoints[*i].number);
         let from = newest.map(|i| &checkpoints[i]);
         let (available, unavailable, free, pointer, known) = match (state, from) {
-            (Some(s), _) => (s.zones.available.clone(), s.zones.unavailable.clone(), s.zones.free.clone(), s.zones.pointer, s.work.kind != Kind::Format),
+            (Some(s), _) => {
+                (s.zones.available.clone(), s.zones.unavailable.clone(), s.zones.free.clone(), s.zones.pointer, s.work.kind != Kind::Format)
+            }
             (None, Some(c)) => (c.available.clone(), c.unavailable.clone(), c.free.clone(), c.pointer, true),
             (None, None) => (vec![], vec![], vec![], 2, false),
         };

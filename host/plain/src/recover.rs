@@ -13,8 +13,7 @@ pub fn recover(array: &[u8], map: &mut [u16], hold: &[u8], mut state: State<&mut
     let pages = pages(array);
     let (number, at) = newest(pages, g).ok_or(Refusal::NoCheckpoint)?;
     let (map_pages, zone_page) = (&pages[at..at + g.map_pages()], &pages[at + g.map_pages()]);
-    let (floor, zones) =
-        Zones::on_page(zone_page.first_chunk::<DATA>().expect("a page has data"), g.blocks).ok_or(Refusal::BadCheckpoint)?;
+    let (floor, zones) = Zones::on_page(zone_page.first_chunk::<DATA>().expect("a page has data"), g.blocks).ok_or(Refusal::BadCheckpoint)?;
     ensure(entries(map_pages).skip(g.logical).all(|e| e == UNMAPPED), Refusal::BadCheckpoint)?;
     ensure(frame::map_in_range(g, entries(map_pages).take(g.logical)), Refusal::BadCheckpoint)?;
     let log = Log::scan(pages, g, &zones)?;
