@@ -1,17 +1,15 @@
 -- What a line is found to say, byte by byte. Assumes nothing.
-use mathlib.Core.Path.{_≡_, refl, sym, ap, _∙_}
-use mathlib.Core.Bool.{cond}
-use mathlib.Core.List.{List, [], _∷_}
-use Prim.Native.Nat.{ℕ, suc, _+_, _-_, _*_, _≤_, _<_}
+use mathlib.Core.Path.{_≡_, sym, _∙_}
+use mathlib.Core.List.{List}
+use Prim.Native.Nat.{ℕ, _+_, _-_, _*_, _≤_, _<_}
 use native.Mathlib.Numerals.{add-one}
 use native.Mathlib.Omega.{arith}
-use lib.ListN.{length, take, drop, getD, length-take, length-drop, drop-of-length-le}
+use lib.ListN.{length, take, drop, getD, length-drop, drop-of-length-le}
 use lib.Seq.{take-all, drop-cons, drop-drop}
-use lib.Dec.{eqb, ltb, leb}
 use borrow.Author.Tests.{eq-eqb, ne-eqb, lt-ltb, le-ltb, le-leb, lt-leb}
 use Rattle.reporting.specs.declared.Parsed.{Parsed}
 use Rattle.reporting.specs.declared.Parsed.the-variants.{Number, IllFormed}
-use Rattle.reporting.specs.Input.{Line, says, illFormed, valueFrom, lineOf, lineIn, taken}
+use Rattle.reporting.specs.Input.{says, illFormed, valueFrom, lineOf, lineIn, taken}
 
 -- ---- a number: byte i, v said before it
 -- the text ends

@@ -1,13 +1,12 @@
 -- The report of a recovery, and of an input line by line. Assumes nothing.
 use mathlib.Core.Path.{_≡_, refl, sym, ap, _∙_}
-use mathlib.Core.Bool.{Bool, true, false, cond}
-use mathlib.Core.List.{List, [], _∷_, _++_, append-nil}
+use mathlib.Core.Bool.{Bool, true, false}
+use mathlib.Core.List.{List, _∷_, _++_, append-nil}
 use Prim.Native.Nat.{ℕ, zero, suc, _≤_, _<_}
 use native.Mathlib.Omega.{arith}
 use lib.ListN.{length, take, replicate}
 use lib.Seq.{length-take-le}
 use Rattle.io.specs.Counts.{Counts}
-use lib.Dec.{eqb, ltb}
 use borrow.Author.Tests.{eq-eqb, ne-eqb, lt-ltb, le-ltb}
 use Rattle.model.specs.World.{World}
 use Rattle.model.specs.Geometry.{geometryOk, blankMap}
@@ -18,7 +17,7 @@ use Rattle.model.specs.declared.Geometry.{Geometry}
 use Rattle.model.specs.declared.State.{State}
 use Rattle.arrays.specs.Tests.{and-left}
 use Rattle.arrays.specs.Ranges.{geometry-in}
-use Rattle.reporting.specs.Input.{Line, says, illFormed, lineOf}
+use Rattle.reporting.specs.Input.{says, illFormed, lineOf}
 use Rattle.reporting.specs.Text.{answerName, numberLine, stateText, Put}
 use Rattle.reporting.specs.Report.{outcomeText, emptyHold, lent, arrayReport, blocksName, pagesName, logicalName, reportOf}
 use Rattle.reporting.proofs.Putting.{puts, put-within}

@@ -5,7 +5,7 @@ use Prim.Native.Nat.{_+_, _-_, _*_, _≤_}
 use native.Mathlib.Omega.{arith}
 use lib.ListN.{length, take, drop, length-take}
 use borrow.Author.Needs.{needs}
-use Rattle.reporting.specs.Text.{listed, Put}
+use Rattle.reporting.specs.Text.{listed}
 use Rattle.reporting.proofs.Blocks.{blocks-again, blocks-done}
 use Rattle.reporting.proofs.put_blocks.Statement.{statement}
 use Rattle.reporting.proofs.put_blocks.Tie as tie

@@ -1,7 +1,5 @@
 -- `reporting::put_number` meets its contract: by the digits that `io` gives. Assumes nothing.
-use mathlib.Core.Path.{_≡_}
 use native.Mathlib.Omega.{arith}
-use lib.ListN.{length}
 use Rattle.reporting.proofs.Decimals.{few-digits, put-digits}
 use borrow.Author.Needs.{needs}
 use Rattle.reporting.proofs.put_number.Statement.{statement}
