@@ -173,25 +173,31 @@ fn erases(array: &mut [u8], f: impl Fn(&mut [u8])) {
     }
 }
 
+type Way<'a> = Box<dyn FnMut() + 'a>;
+
 // The least time of each of several ways, in nanoseconds a page, taken in turn.
-fn least(ways: &mut [(&str, Box<dyn FnMut() + '_>)]) -> Vec<f64> {
+fn least(ways: &mut [Way]) -> Vec<f64> {
     let mut best = vec![f64::MAX; ways.len()];
     for _ in 0..ROUNDS {
-        for (i, (_, way)) in ways.iter_mut().enumerate() {
+        for (way, best) in ways.iter_mut().zip(&mut best) {
             let t = Instant::now();
             way();
-            best[i] = best[i].min(t.elapsed().as_nanos() as f64 / PAGES as f64);
+            *best = best.min(t.elapsed().as_nanos() as f64 / PAGES as f64);
         }
     }
     best
 }
 
 // One line: the proved way is the first; it is compared with the fastest of the others.
-fn line(table: &mut Table, what: &str, ways: &mut [(&str, Box<dyn FnMut() + '_>)]) {
-    let best = least(ways);
+fn line(table: &mut Table, what: &str, mut ways: Vec<Way>) {
+    let best = least(&mut ways);
     let plain = best[1..].iter().copied().fold(f64::MAX, f64::min);
     table.line(what, best[0], plain, 1.0);
 }
+
+const CLASSES: [fn(&[u8]) -> u8; 5] = [class_proved, class_bytes, class_words, class_once, class_common];
+const PROGRAMS: [fn(&mut [u8], &[u8], u16, u16, u32, u32); 3] = [program_proved, program_bytes, program_words];
+const ERASES: [fn(&mut [u8]); 3] = [erase_proved, erase_fill, erase_loop];
 
 /// The table of pages, in nanoseconds a page.
 pub fn run(table: &mut Table) {
@@ -204,79 +210,36 @@ pub fn run(table: &mut Table) {
     let mut whole = erased.clone();
     programs(&mut whole, &data, program_words);
 
-    for (name, array) in [("erased", &erased), ("random", &noise), ("whole", &whole)] {
+    // every way does the same
+    let arrays = [("erased", &erased), ("random", &noise), ("whole", &whole)];
+    for (name, array) in arrays {
         let n = classes(array, class_bytes);
-        assert_eq!(n, classes(array, class_words));
-        assert_eq!(n, classes(array, class_once));
-        assert_eq!(n, classes(array, class_common));
-        assert_eq!(n, classes(array, class_proved), "{name}");
+        assert!(CLASSES.iter().all(|f| classes(array, f) == n), "{name}");
     }
-    let mut again = noise.clone();
-    programs(&mut again, &data, program_proved);
-    assert!(again == whole);
-    erases(&mut again, erase_proved);
-    assert!(again == erased);
+    for (program, erase) in PROGRAMS.into_iter().zip(ERASES) {
+        let mut again = noise.clone();
+        programs(&mut again, &data, program);
+        assert!(again == whole);
+        erases(&mut again, erase);
+        assert!(again == erased);
+    }
 
-    for (name, array) in [("erased", &erased), ("random", &noise), ("whole", &whole)] {
-        line(
-            table,
-            &format!("class, {name} pages"),
-            &mut [
-                (
-                    "proved",
-                    Box::new(|| {
-                        black_box(classes(array, class_proved));
-                    }),
-                ),
-                (
-                    "bytes",
-                    Box::new(|| {
-                        black_box(classes(array, class_bytes));
-                    }),
-                ),
-                (
-                    "words",
-                    Box::new(|| {
-                        black_box(classes(array, class_words));
-                    }),
-                ),
-                (
-                    "words in one pass",
-                    Box::new(|| {
-                        black_box(classes(array, class_once));
-                    }),
-                ),
-                (
-                    "words in common",
-                    Box::new(|| {
-                        black_box(classes(array, class_common));
-                    }),
-                ),
-            ],
-        );
+    for (name, array) in arrays {
+        let way = |f| -> Way {
+            Box::new(move || {
+                black_box(classes(array, f));
+            })
+        };
+        line(table, &format!("class, {name} pages"), CLASSES.into_iter().map(way).collect());
     }
-    let mut a = erased.clone();
-    let mut b = erased.clone();
-    let mut c = erased.clone();
-    line(
-        table,
-        "program",
-        &mut [
-            ("proved", Box::new(|| programs(&mut a, &data, program_proved))),
-            ("bytes", Box::new(|| programs(&mut b, &data, program_bytes))),
-            ("words", Box::new(|| programs(&mut c, &data, program_words))),
-        ],
-    );
-    let mut a = noise.clone();
-    let mut b = noise.clone();
-    let mut c = noise.clone();
-    line(
-        table,
-        "erase",
-        &mut [
-            ("proved", Box::new(|| erases(&mut a, erase_proved))),
-            ("fill", Box::new(|| erases(&mut b, erase_fill))),
-            ("loop", Box::new(|| erases(&mut c, erase_loop))),
-        ],
-    );
+    let program = |f| -> Way {
+        let (mut array, data) = (erased.clone(), &data);
+        Box::new(move || programs(&mut array, data, f))
+    };
+    line(table, "program", PROGRAMS.into_iter().map(program).collect());
+    let erase = |f| -> Way {
+        let mut array = noise.clone();
+        Box::new(move || erases(&mut array, f))
+    };
+    line(table, "erase", ERASES.into_iter().map(erase).collect());
 }

