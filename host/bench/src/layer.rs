@@ -7,6 +7,11 @@ pub enum Layer {
     Plain,
 }
 
+/// Recovery by a plain Rust program that keeps no list of what it scanned, and rescans.
+pub fn rescan(s: &mut Store, g: Geometry) -> u8 {
+    plain::rescan(&s.array, &mut s.map, &s.hold, &mut s.state, g.blocks, g.pages, g.logical)
+}
+
 /// Both, the proved one first.
 pub const LAYERS: [Layer; 2] = [Layer::Proved, Layer::Plain];
 

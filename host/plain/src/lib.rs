@@ -86,7 +86,12 @@ pub fn format(array: &mut [u8], map: &mut [u16], hold: &[u8], state: &mut [u8], 
 
 /// Makes map and state from what stands on the array.
 pub fn recover(array: &[u8], map: &mut [u16], hold: &[u8], state: &mut [u8], blocks: u16, pages: u16, logical: u16) -> u8 {
-    number(State::edit(state).and_then(|s| recover::recover(array, map, hold, s, flash::Geometry::new(blocks, pages, logical))))
+    number(State::edit(state).and_then(|s| recover::recover::<recover::Log>(array, map, hold, s, flash::Geometry::new(blocks, pages, logical))))
+}
+
+/// The same by a program that keeps no list of what it scanned, and rescans.
+pub fn rescan(array: &[u8], map: &mut [u16], hold: &[u8], state: &mut [u8], blocks: u16, pages: u16, logical: u16) -> u8 {
+    number(State::edit(state).and_then(|s| recover::recover::<recover::Rescan>(array, map, hold, s, flash::Geometry::new(blocks, pages, logical))))
 }
 
 /// Opens a transaction in the lowest free place.

@@ -8,7 +8,19 @@ use crate::zones::Zones;
 use crate::{ensure, Answer, Outcome, Refusal, DATA, LAST, STATE, UNMAPPED};
 use std::ops::Range;
 
-pub fn recover(array: &[u8], map: &mut [u16], hold: &[u8], mut state: State<&mut [u8; STATE]>, g: Geometry) -> Outcome {
+/// What a scan finds, and how it is redone.
+pub trait Scan<'a>: Sized {
+    /// Scans the listed blocks; refusal 4 where a whole page is bad.
+    fn scan(pages: &'a [Page], g: Geometry, zones: Zones<'a>) -> Result<Self, Refusal>;
+
+    /// The highest version, or 0.
+    fn highest(&self) -> u32;
+
+    /// Enters the pages of the committed transactions above the floor.
+    fn redo(&self, floor: u32, map: &mut [u16]);
+}
+
+pub fn recover<'a, S: Scan<'a>>(array: &'a [u8], map: &mut [u16], hold: &[u8], mut state: State<&mut [u8; STATE]>, g: Geometry) -> Outcome {
     frame::lengths(g, array, map, hold)?;
     let pages = pages(array);
     let (number, at) = newest(pages, g).ok_or(Refusal::NoCheckpoint)?;
@@ -16,15 +28,15 @@ pub fn recover(array: &[u8], map: &mut [u16], hold: &[u8], mut state: State<&mut
     let (floor, zones) = Zones::on_page(zone_page.first_chunk::<DATA>().expect("a page has data"), g.blocks).ok_or(Refusal::BadCheckpoint)?;
     ensure(entries(map_pages).skip(g.logical).all(|e| e == UNMAPPED), Refusal::BadCheckpoint)?;
     ensure(frame::map_in_range(g, entries(map_pages).take(g.logical)), Refusal::BadCheckpoint)?;
-    let log = Log::scan(pages, g, &zones)?;
+    let found = S::scan(pages, g, zones)?;
 
     for (to, entry) in map.iter_mut().zip(entries(map_pages)) {
         *to = entry;
     }
-    log.redo(floor, map);
+    found.redo(floor, map);
     state.clear(g);
     state.set_zones(&zones);
-    state.set_version(log.marks.last().map_or(floor, |m| m.version.max(floor)));
+    state.set_version(found.highest().max(floor));
     state.set_checkpoint(number);
     state.set_front(at / g.pages, 0);
     Ok(Answer::Done)
@@ -68,26 +80,18 @@ struct Mark {
     pages: Range<usize>,
 }
 
-/// What a scan finds: the whole pages, those of one transaction together and in scan order, and the marks by rising version.
-struct Log {
+/// The whole pages, those of one transaction together and in scan order, and the marks by rising version.
+pub struct Log {
     entries: Vec<Entry>,
     marks: Vec<Mark>,
 }
 
-impl Log {
-    /// Scans the listed blocks; refusal 4 where a whole page is bad.
-    fn scan(pages: &[Page], g: Geometry, zones: &Zones) -> Result<Log, Refusal> {
+impl<'a> Scan<'a> for Log {
+    fn scan(pages: &'a [Page], g: Geometry, zones: Zones<'a>) -> Result<Log, Refusal> {
         let mut entries = Vec::with_capacity(g.pages * (zones.unavailable.len() + zones.available.len()));
         for (ppn, page) in zones.scan(pages, g).filter(|(_, p)| is_whole(p)) {
             let s = Spare::of(page);
-            let good = s.kind == 0
-                && s.reserved == 0
-                && usize::from(s.lpn) < g.logical
-                && (s.count == 0) == (s.version == 0)
-                && s.id <= LAST
-                && s.version <= LAST
-                && (s.id != 0 || s.count == 1);
-            ensure(good, Refusal::BadPage)?;
+            ensure(good(s, g), Refusal::BadPage)?;
             let order = entries.len() as u16;
             entries.push(Entry { id: s.id, version: s.version, count: s.count, lpn: s.lpn, ppn: ppn as u16, order });
         }
@@ -96,7 +100,10 @@ impl Log {
         Ok(Log { entries, marks })
     }
 
-    /// Enters the pages of the committed transactions above the floor.
+    fn highest(&self) -> u32 {
+        self.marks.last().map_or(0, |m| m.version)
+    }
+
     fn redo(&self, floor: u32, map: &mut [u16]) {
         for mark in self.marks.iter().filter(|m| m.committed && m.version > floor) {
             for page in &self.entries[mark.pages.clone()] {
@@ -104,6 +111,17 @@ impl Log {
             }
         }
     }
+}
+
+/// What refusal 4 asks of a whole page by itself.
+fn good(s: Spare, g: Geometry) -> bool {
+    s.kind == 0
+        && s.reserved == 0
+        && usize::from(s.lpn) < g.logical
+        && (s.count == 0) == (s.version == 0)
+        && s.id <= LAST
+        && s.version <= LAST
+        && (s.id != 0 || s.count == 1)
 }
 
 /// The marks of a log's entries; refusal 4 where a transaction has two or a version is repeated.
@@ -123,4 +141,53 @@ fn marks(entries: &[Entry]) -> Result<Vec<Mark>, Refusal> {
     marks.sort_unstable_by_key(|m| m.version);
     ensure(marks.windows(2).all(|w| w[0].version != w[1].version), Refusal::BadPage)?;
     Ok(marks)
+}
+
+/// No list but a bit for each whole page: every question is answered by going through the spare areas again.
+pub struct Rescan<'a> {
+    pages: &'a [Page],
+    g: Geometry,
+    zones: Zones<'a>,
+    whole: [u64; 128],
+}
+
+impl Rescan<'_> {
+    /// The whole pages in scan order.
+    fn whole(&self) -> impl Iterator<Item = (usize, Spare)> + '_ {
+        self.zones.scan(self.pages, self.g).filter(|(ppn, _)| self.whole[ppn / 64] >> (ppn % 64) & 1 == 1).map(|(ppn, p)| (ppn, Spare::of(p)))
+    }
+
+    /// The pages of the transaction that a page is of.
+    fn of(&self, ppn: usize, s: Spare) -> impl Iterator<Item = (usize, Spare)> + '_ {
+        self.whole().filter(move |(n, t)| if s.id == 0 { *n == ppn } else { t.id == s.id })
+    }
+}
+
+impl<'a> Scan<'a> for Rescan<'a> {
+    fn scan(pages: &'a [Page], g: Geometry, zones: Zones<'a>) -> Result<Rescan<'a>, Refusal> {
+        let mut found = Rescan { pages, g, zones, whole: [0; 128] };
+        for (ppn, _) in zones.scan(pages, g).filter(|(_, p)| is_whole(p)) {
+            found.whole[ppn / 64] |= 1 << (ppn % 64);
+        }
+        for (i, (_, s)) in found.whole().enumerate() {
+            ensure(good(s, g), Refusal::BadPage)?;
+            let again = |t: Spare| t.version == s.version || s.id != 0 && t.id == s.id && t.count != 0;
+            ensure(s.count == 0 || !found.whole().take(i).any(|(_, t)| again(t)), Refusal::BadPage)?;
+        }
+        Ok(found)
+    }
+
+    fn highest(&self) -> u32 {
+        self.whole().map(|(_, s)| s.version).max().unwrap_or(0)
+    }
+
+    fn redo(&self, floor: u32, map: &mut [u16]) {
+        let mut last = floor;
+        while let Some((ppn, mark)) = self.whole().filter(|(_, s)| s.version > last).min_by_key(|(_, s)| s.version) {
+            if self.of(ppn, mark).count() == usize::from(mark.count) {
+                self.of(ppn, mark).for_each(|(n, s)| map[usize::from(s.lpn)] = n as u16);
+            }
+            last = mark.version;
+        }
+    }
 }
