@@ -1,6 +1,7 @@
 /*
  * Bokuhira: the transactional flash layer of the switch, for callers in C and C++. Link libbokuhira.a, which `rt staticlib bokuhira`
- * writes (x86-64 Linux). It calls nothing but memcpy, memmove and memset, keeps no memory of its own and allocates none.
+ * writes (x86-64 Linux). It calls nothing but memcpy, memmove and memset, keeps no memory of its own and allocates none. Recover needs
+ * 32 KiB of stack, every other function less than 24 KiB.
  *
  * Every function takes the same four lent buffers, each as a pointer and a length, and answers with one number:
  *
@@ -113,7 +114,7 @@ uint8_t bokuhira_format(uint8_t *array, size_t array_len, uint16_t *map, size_t 
                         uint8_t *state, size_t state_len, uint16_t blocks, uint16_t pages, uint16_t logical);
 
 /*
- * Makes map and state from what stands on the array. It programs nothing, and no change is open after it. It needs about 24 KB of stack.
+ * Makes map and state from what stands on the array. It programs nothing, and no change is open after it.
  * Changes map, state. Refuses: 1 (for geometry and lengths), 2, 3, 4.
  */
 uint8_t bokuhira_recover(const uint8_t *array, size_t array_len, uint16_t *map, size_t map_len, const uint8_t *hold, size_t hold_len,
