@@ -1,14 +1,19 @@
 //! Benchmarks: the proved layer beside the plain Rust one, in one run on the same arrays. Each time is the least of several rounds taken in
 //! turn. The exit status is 1 where a goal is missed.
+
+#[allow(dead_code)] // the tests read through it too
+#[path = "../../tests/common/layer.rs"]
 mod layer;
 mod pages;
 mod session;
+mod setup;
 mod stack;
 mod table;
 
 use bokuhira::{Answer, Call, Geometry, State, Store, HOLD, STATE};
-use layer::{name, Layer, GEOMETRIES, LAYERS};
+use layer::{Layer, LAYERS};
 use session::COMMANDS;
+use setup::{name, GEOMETRIES};
 use std::time::Instant;
 use table::Table;
 
@@ -48,10 +53,14 @@ fn commands(table: &mut Table) {
     }
 }
 
+fn rescan(s: &mut Store, g: Geometry) -> u8 {
+    plain::rescan(&s.array, &mut s.map, &s.hold, &mut s.state, g.blocks, g.pages, g.logical)
+}
+
 /// The least time of a recovery from nothing but the array: by the proved layer, by the plain one, and by the program that rescans.
 fn recovery(g: Geometry, s: &Store, rounds: usize) -> [f64; 3] {
     let ways: [fn(&mut Store, Geometry) -> u8; 3] =
-        [|s, g| Layer::Proved.call(s, &Call::Recover(g)), |s, g| Layer::Plain.call(s, &Call::Recover(g)), layer::rescan];
+        [|s, g| Layer::Proved.call(s, &Call::Recover(g)), |s, g| Layer::Plain.call(s, &Call::Recover(g)), rescan];
     let mut least = [f64::MAX; 3];
     for round in 0..rounds {
         let mut left: Vec<Store> = Vec::new();

@@ -1,6 +1,6 @@
 //! Classing, programming and erasing pages: the proved functions of `page` (linked from libpageffi.a) beside plain Rust
 //! that does the same job, over 4 MB of erased, random and whole pages.
-use crate::layer::Random;
+use crate::setup::Random;
 use crate::table::Table;
 use std::hint::black_box;
 use std::time::Instant;
@@ -117,26 +117,25 @@ fn spare(page: &mut [u8], lpn: u16, cnt: u16, id: u32, ver: u32) {
     page[525] = 0;
 }
 
-#[inline(never)]
-fn program_bytes(page: &mut [u8], data: &[u8], lpn: u16, cnt: u16, id: u32, ver: u32) {
+#[inline(always)]
+fn program(page: &mut [u8], data: &[u8], lpn: u16, cnt: u16, id: u32, ver: u32, zeros: fn(&[u8]) -> u32) {
     if page.len() != PAGE || data.len() != 512 {
         return;
     }
     page[..512].copy_from_slice(data);
     spare(page, lpn, cnt, id, ver);
-    let z = zeros_bytes(page) as u16;
+    let z = zeros(page) as u16;
     page[526..].copy_from_slice(&z.to_le_bytes());
 }
 
 #[inline(never)]
+fn program_bytes(page: &mut [u8], data: &[u8], lpn: u16, cnt: u16, id: u32, ver: u32) {
+    program(page, data, lpn, cnt, id, ver, zeros_bytes);
+}
+
+#[inline(never)]
 fn program_words(page: &mut [u8], data: &[u8], lpn: u16, cnt: u16, id: u32, ver: u32) {
-    if page.len() != PAGE || data.len() != 512 {
-        return;
-    }
-    page[..512].copy_from_slice(data);
-    spare(page, lpn, cnt, id, ver);
-    let z = zeros_words(page) as u16;
-    page[526..].copy_from_slice(&z.to_le_bytes());
+    program(page, data, lpn, cnt, id, ver, zeros_words);
 }
 
 #[inline(never)]

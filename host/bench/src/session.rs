@@ -1,23 +1,11 @@
 //! A long random session, each call timed: changes, lone writes and reads, with a reclaim and a checkpoint whenever the zone is short.
-use crate::layer::{Layer, Random};
+use crate::layer::{kind, Layer};
+use crate::setup::Random;
 use bokuhira::{Answer, Call, Geometry, State, Store};
 use std::time::Instant;
 
+/// The commands of a session, as `kind` numbers them from begin on.
 pub const COMMANDS: [&str; 8] = ["begin", "write", "lone write", "commit", "abort", "read", "checkpoint, a stride", "reclaim, a stride"];
-
-fn column(call: &Call) -> usize {
-    match call {
-        Call::Begin(_) => 0,
-        Call::Write { .. } => 1,
-        Call::Lone { .. } => 2,
-        Call::Commit(_) => 3,
-        Call::Abort(_) => 4,
-        Call::Read(_) => 5,
-        Call::Checkpoint => 6,
-        Call::Reclaim => 7,
-        Call::Format(_) | Call::Recover(_) => unreachable!("not part of a session"),
-    }
-}
 
 /// What a session took and did.
 #[derive(Clone, Default)]
@@ -48,7 +36,7 @@ impl Session {
             answer = self.layer.call(std::hint::black_box(&mut self.store), std::hint::black_box(call));
         }
         let took = before.elapsed().as_nanos() as f64;
-        let c = column(call);
+        let c = kind(call) - kind(&Call::Begin(0));
         self.tally.ns[c] += (took - self.clock).max(0.0);
         self.tally.calls[c] += times;
         answer

@@ -1,0 +1,42 @@
+//! What the tables are made on: geometries and random numbers.
+use bokuhira::Geometry;
+
+/// Small, middle and large.
+pub const GEOMETRIES: [Geometry; 3] = [
+    Geometry { blocks: 8, pages: 8, logical: 16 },
+    Geometry { blocks: 64, pages: 32, logical: 1024 },
+    Geometry { blocks: 128, pages: 64, logical: 1024 },
+];
+
+pub fn name(g: Geometry) -> String {
+    format!("{} × {} × {}", g.blocks, g.pages, g.logical)
+}
+
+pub struct Random(u64);
+
+impl Random {
+    pub fn new(seed: u64) -> Random {
+        Random(seed.wrapping_mul(0x9E3779B97F4A7C15) | 1)
+    }
+
+    pub fn next(&mut self) -> u64 {
+        self.0 ^= self.0 << 13;
+        self.0 ^= self.0 >> 7;
+        self.0 ^= self.0 << 17;
+        self.0
+    }
+
+    pub fn below(&mut self, n: u64) -> u64 {
+        (self.next() >> 16) % n
+    }
+
+    pub fn fill(&mut self, bytes: &mut [u8]) {
+        bytes.iter_mut().for_each(|b| *b = (self.next() >> 24) as u8);
+    }
+
+    pub fn page(&mut self) -> Vec<u8> {
+        let mut data = vec![0; bokuhira::DATA];
+        self.fill(&mut data);
+        data
+    }
+}

@@ -1,0 +1,64 @@
+//! The two layers behind one interface; the benchmarks use it too.
+use bokuhira::{Call, Store, DATA};
+
+/// The layer that a call goes to: the proved library, or the plain one written apart from it.
+#[derive(Clone, Copy, PartialEq, Eq, Debug)]
+pub enum Layer {
+    Proved,
+    Plain,
+}
+
+pub const LAYERS: [Layer; 2] = [Layer::Proved, Layer::Plain];
+
+impl Layer {
+    /// Carries a call out and gives its number: 0 done, 255 more, else the refusal.
+    pub fn call(self, store: &mut Store, call: &Call) -> u8 {
+        match self {
+            Layer::Proved => store.call(call).number(),
+            Layer::Plain => plain_call(store, call),
+        }
+    }
+
+    /// The part that a read hands back, or the refusal.
+    pub fn read(self, store: &Store, lpn: u16) -> Result<&[u8], u8> {
+        match self {
+            Layer::Proved => store.read(lpn).map_err(|r| r.0),
+            Layer::Plain => match plain::read(&store.array, &store.map, &store.hold, &store.state, lpn) {
+                (0, at) => Ok(&store.array[at..at + DATA]),
+                (n, _) => Err(n),
+            },
+        }
+    }
+}
+
+fn plain_call(store: &mut Store, call: &Call) -> u8 {
+    let Store { array, map, hold, state } = store;
+    match call {
+        Call::Format(g) => plain::format(array, map, hold, state, g.blocks, g.pages, g.logical),
+        Call::Recover(g) => plain::recover(array, map, hold, state, g.blocks, g.pages, g.logical),
+        Call::Begin(id) => plain::begin(array, map, hold, state, *id),
+        Call::Write { id, lpn, data } => plain::write(array, map, hold, state, *id, *lpn, data),
+        Call::Lone { lpn, data } => plain::lone(array, map, hold, state, *lpn, data),
+        Call::Commit(id) => plain::commit(array, map, hold, state, *id),
+        Call::Abort(id) => plain::abort(array, map, hold, state, *id),
+        Call::Read(lpn) => plain::read(array, map, hold, state, *lpn).0,
+        Call::Checkpoint => plain::checkpoint(array, map, hold, state),
+        Call::Reclaim => plain::reclaim(array, map, hold, state),
+    }
+}
+
+/// The kind of a call, 0 to 9, and its name.
+pub fn kind(call: &Call) -> usize {
+    match call {
+        Call::Format(_) => 0,
+        Call::Recover(_) => 1,
+        Call::Begin(_) => 2,
+        Call::Write { .. } => 3,
+        Call::Lone { .. } => 4,
+        Call::Commit(_) => 5,
+        Call::Abort(_) => 6,
+        Call::Read(_) => 7,
+        Call::Checkpoint => 8,
+        Call::Reclaim => 9,
+    }
+}
