@@ -9,16 +9,18 @@ use lib.Dec.{eqb, leb}
 use borrow.Author.Tests.{eqb-true, eq-eqb, ne-eqb, leb-false, not-true, not-false}
 use Rattle.model.specs.Answers.{refused}
 use Rattle.model.specs.Geometry.{unmapped}
-use Rattle.model.specs.Frame.{gate}
+use Rattle.model.specs.Frame.{freshState, gate}
 use Rattle.model.specs.World.{World}
 use Rattle.model.specs.Transactions.{readAnswer}
-use Rattle.model.specs.Commands.{Call, read, Outcome, plan, carried, exec}
+use Rattle.model.specs.Commands.{Call, recover, read, Outcome, plan, carried, exec}
+use Rattle.model.specs.declared.Geometry.{Geometry}
 use Rattle.model.specs.declared.State.{State}
 use Rattle.arrays.specs.Tests.{and-left}
 use Rattle.arrays.specs.Frame.{gate-passes, frame-in}
 use Rattle.device.proofs.Framed.{getD-same}
 use Rattle.encoding.specs.Encoding.{encodes, stateFrom, bytesOf}
-use Rattle.bokuhira.specs.Calls.{Result, worldFrom, resultOf, called, Found, foundOf, readCalled}
+use Rattle.bokuhira.specs.Calls.{Result, worldOf, worldFrom, resultOf, badFrame, called, startFrom, sized, started, Found, foundOf, readCalled}
+use Rattle.bokuhira.specs.PowerUp.{blind}
 
 -- ---- whether bytes encode a state, as the test on them tells
 pub uncoded : (bs : List ℕ) (t : Bool) → t ≡ encodes bs → not t ≡ true → encodes bs ≡ false
@@ -52,25 +54,61 @@ more-stands n e = rw e
 
 -- ---- a call
 -- of bytes that encode no state
-pub unmet : (c : Call) (xs map hold bs : List ℕ) → encodes bs ≡ false → _≡_ {A = Result} (record { answer = 1; array = xs; map = map; hold = hold; bytes = bs }) (called c xs map hold bs)
+pub unmet : (c : Call) (xs map hold bs : List ℕ) → encodes bs ≡ false → badFrame xs map hold bs ≡ called c xs map hold bs
 unfolding called
 unmet c xs map hold bs e = rw e
 
-result : (bs : List ℕ) (o : Outcome) (n : ℕ) (ys map hold : List ℕ) (t : State)
-    → _≡_ {A = Outcome} (record { answer = n; world = record { array = ys; map = map; hold = hold; state = t } }) o
-    → _≡_ {A = Result} (record { answer = n; array = ys; map = map; hold = hold; bytes = cond (refused n) bs (bytesOf t) }) (resultOf bs o)
+-- what the device replied, of a state that is u, and what `finish` made of it
+replied : (c : Call) (xs map hold bs : List ℕ) (u s t : State) (n r : ℕ) (ys map2 hold2 cs : List ℕ) → s ≡ u
+    → _≡_ {A = Outcome} (record { answer = n; world = worldOf ys map2 hold2 t }) (exec c (worldOf xs map hold s))
+    → (r ≡ n) × (cs ≡ cond (refused n) bs (bytesOf t))
+    → _≡_ {A = Result} (record { answer = r; array = ys; map = map2; hold = hold2; bytes = cs }) (resultOf bs (exec c (worldOf xs map hold u)))
 unfolding resultOf
-result bs o n ys map hold t e = ap (resultOf bs) e
+replied c xs map hold bs u s t n r ys map2 hold2 cs e o f = rw (f .0, f .1) (ap (resultOf bs) (o ∙ ap (λ (v : State). exec c (worldOf xs map hold v)) e))
 
 -- of a state that the device replies to
 pub met : (c : Call) (xs map hold bs : List ℕ) (s t : State) (n r : ℕ) (ys map2 hold2 cs : List ℕ) → encodes bs ≡ true → s ≡ stateFrom bs
-    → _≡_ {A = Outcome} (record { answer = n; world = record { array = ys; map = map2; hold = hold2; state = t } }) (exec c (record { array = xs; map = map; hold = hold; state = s }))
+    → _≡_ {A = Outcome} (record { answer = n; world = worldOf ys map2 hold2 t }) (exec c (worldOf xs map hold s))
     → (r ≡ n) × (cs ≡ cond (refused n) bs (bytesOf t))
     → _≡_ {A = Result} (record { answer = r; array = ys; map = map2; hold = hold2; bytes = cs }) (called c xs map hold bs)
 unfolding called
-met c xs map hold bs s t n r ys map2 hold2 cs l e o f =
-    rw (l, f .0, f .1)
-    (result bs (exec c (worldFrom xs map hold bs)) n ys map2 hold2 t (o ∙ ap (λ (u : State). exec c (record { array = xs; map = map; hold = hold; state = u })) e))
+met c xs map hold bs s t n r ys map2 hold2 cs l e o f = rw l (replied c xs map hold bs (stateFrom bs) s t n r ys map2 hold2 cs e o f)
+
+-- ---- a format or a recover
+-- the state that it starts from
+pub start-coded : (g : Geometry) (bs : List ℕ) (t : Bool) (s : State) → t ≡ encodes bs → t ≡ true → s ≡ stateFrom bs → s ≡ startFrom g bs
+unfolding startFrom
+start-coded g bs t s e h f = rw (← e, h) f
+
+pub start-fresh : (g : Geometry) (bs : List ℕ) (t : Bool) (s : State) → t ≡ encodes bs → t ≡ false → s ≡ freshState g → s ≡ startFrom g bs
+unfolding startFrom
+start-fresh g bs t s e h f = rw (← e, h) f
+
+-- of another number of bytes, as the test on them tells
+pub unstarted : (c : Geometry → Call) (g : Geometry) (xs map hold bs : List ℕ) (t : Bool) → t ≡ sized bs → not t ≡ true → badFrame xs map hold bs ≡ started c g xs map hold bs
+unfolding started
+unstarted c g xs map hold bs t e h = rw (← e, not-true t h)
+
+-- of as many as a state has
+pub long : (bs : List ℕ) (t : Bool) → t ≡ sized bs → not t ≡ false → length bs ≡ 2366
+unfolding sized
+long bs t e h = eqb-true (length bs) 2366 (sym e ∙ not-false t h)
+
+pub start-met : (c : Geometry → Call) (g : Geometry) (xs map hold bs : List ℕ) (s t : State) (n r : ℕ) (ys map2 hold2 cs : List ℕ) → length bs ≡ 2366 → s ≡ startFrom g bs
+    → _≡_ {A = Outcome} (record { answer = n; world = worldOf ys map2 hold2 t }) (exec (c g) (worldOf xs map hold s))
+    → (r ≡ n) × (cs ≡ cond (refused n) bs (bytesOf t))
+    → _≡_ {A = Result} (record { answer = r; array = ys; map = map2; hold = hold2; bytes = cs }) (started c g xs map hold bs)
+unfolding started sized
+start-met c g xs map hold bs s t n r ys map2 hold2 cs l e o f = rw (eq-eqb _ _ l) (replied (c g) xs map hold bs (startFrom g bs) s t n r ys map2 hold2 cs e o f)
+
+-- of a recover, with a fresh state for whatever the bytes say
+pub recover-met : (g : Geometry) (xs map hold bs : List ℕ) (s t : State) (n r : ℕ) (ys map2 hold2 cs : List ℕ) → length bs ≡ 2366 → s ≡ freshState g
+    → _≡_ {A = Outcome} (record { answer = n; world = worldOf ys map2 hold2 t }) (exec (recover g) (worldOf xs map hold s))
+    → (r ≡ n) × (cs ≡ cond (refused n) bs (bytesOf t))
+    → _≡_ {A = Result} (record { answer = r; array = ys; map = map2; hold = hold2; bytes = cs }) (started recover g xs map hold bs)
+unfolding started sized
+recover-met g xs map hold bs s t n r ys map2 hold2 cs l e o f =
+    rw (eq-eqb _ _ l) (replied (recover g) xs map hold bs (freshState g) s t n r ys map2 hold2 cs e o f ∙ blind g xs map hold bs (freshState g) (startFrom g bs))
 
 -- ---- a read
 -- of bytes that encode no state

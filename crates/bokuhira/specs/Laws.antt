@@ -1,4 +1,5 @@
--- Where a read is done, the 512 bytes from the place that it gives are the part that document 01 hands back. Assumes nothing.
+-- Where a read is done, the 512 bytes from the place that it gives are the part that document 01 (docs/PAPERS.md) hands back.
+-- Assumes nothing.
 use Prim.Native.Nat.{ℕ, _*_}
 use mathlib.Core.Path.{_≡_, refl, sym}
 use mathlib.Core.Bool.{Bool, true, false, cond}

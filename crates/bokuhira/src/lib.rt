@@ -1,15 +1,18 @@
 // The commands for callers in C or Rust (include/bokuhira.h). The array, the map, the hold and the state, as bytes (crate `encoding`), are
-// lent as slices. Nothing is required of a caller: bytes that encode no state are a bad frame, answered 1. An answer is a number, 0 done,
-// 255 more, else the refusal's, and a refusal leaves every slice as it was.
+// lent as slices. Nothing is required of a caller. Format and recover take any 2,366 bytes for the state, since after power-up anything
+// stands there; to the other commands bytes that encode no state are a bad frame, answered 1. An answer is a number, 0 done, 255 more, else
+// the refusal's, and a refusal leaves every slice as it was.
 ghost use mathlib.Core.Path.{_≡_};
 ghost use mathlib.Core.Bool.{true, cond};
+ghost use lib.ListN.{length};
 ghost use Rattle.model.specs.Answers.{number, refused};
 ghost use Rattle.model.specs.Commands.{format, recover, begin, write, lone, commit, abort, checkpoint, reclaim};
 ghost use Rattle.encoding.specs.Encoding.{encodes, stateFrom, bytesOf};
-ghost use Rattle.bokuhira.specs.Calls.{Result, called, Found, readCalled};
+ghost use Rattle.bokuhira.specs.Calls.{Result, called, startFrom, sized, started, Found, readCalled};
 use device::Device;
 use device::Reply;
 use model::Geometry;
+use model::State;
 
 /// The device whose state the bytes say.
 fn device(state: &[u8]) -> Device
@@ -20,9 +23,28 @@ fn device(state: &[u8]) -> Device
     Device { state: s }
 }
 
+/// Whether the bytes are as many as a state has.
+fn sized(state: &[u8]) -> bool
+    ensures { λ r. ⌜ r ≡ sized (now (state .entry)) ⌝ }
+{
+    state.len() == 2366
+}
+
+/// The device that a format starts from: of the state that the bytes say, or where they encode none, of a fresh one.
+fn starting(state: &[u8], g: Geometry) -> Device
+    requires { ⌜ length (now state) ≡ 2366 ⌝ }
+    ensures { λ r. ⌜ r .state ≡ startFrom g (now (state .entry)) ⌝ }
+{
+    if encoding::encodes(state) {
+        return device(state);
+    }
+    let s = State::fresh(g);
+    Device { state: s }
+}
+
 /// The answer's number of a reply; unless it refuses, its state is stored.
 fn finish(state: &mut [u8], r: Reply) -> u8
-    requires { ⌜ encodes (now state) ≡ true ⌝ }
+    requires { ⌜ length (now state) ≡ 2366 ⌝ }
     ensures { λ n. ⌜ (n ≡ number (r .answer)) × (now (state .exit) ≡ cond (refused (number (r .answer))) (now (state .entry)) (bytesOf (r .device .state))) ⌝ }
 {
     let a = r.answer;
@@ -38,7 +60,7 @@ fn finish(state: &mut [u8], r: Reply) -> u8
     n
 }
 
-/// One stride of a format.
+/// One stride of a format. Any 2,366 bytes will do for the state.
 #[no_mangle]
 pub extern "C" fn bokuhira_format(
     array: &mut [u8],
@@ -49,9 +71,9 @@ pub extern "C" fn bokuhira_format(
     pages: u16,
     logical: u16,
 ) -> u8
-    ensures { λ r. ⌜ _≡_ {A = Result} (record { answer = r; array = now (array .exit); map = now (map .exit); hold = now (hold .entry); bytes = now (state .exit) }) (called (format (record { blocks = blocks; pages = pages; logical = logical })) (now (array .entry)) (now (map .entry)) (now (hold .entry)) (now (state .entry))) ⌝ }
+    ensures { λ r. ⌜ _≡_ {A = Result} (record { answer = r; array = now (array .exit); map = now (map .exit); hold = now (hold .entry); bytes = now (state .exit) }) (started format (record { blocks = blocks; pages = pages; logical = logical }) (now (array .entry)) (now (map .entry)) (now (hold .entry)) (now (state .entry))) ⌝ }
 {
-    if !encoding::encodes(state) {
+    if !sized(state) {
         return 1;
     }
     let g = Geometry {
@@ -59,11 +81,11 @@ pub extern "C" fn bokuhira_format(
         pages,
         logical,
     };
-    let r = device(state).format(array, map, hold, g);
+    let r = starting(state, g).format(array, map, hold, g);
     finish(state, r)
 }
 
-/// Makes map and state from what stands on the array.
+/// Makes map and state from what stands on the array. Any 2,366 bytes will do for the state: none is looked at.
 #[no_mangle]
 pub extern "C" fn bokuhira_recover(
     array: &[u8],
@@ -74,9 +96,9 @@ pub extern "C" fn bokuhira_recover(
     pages: u16,
     logical: u16,
 ) -> u8
-    ensures { λ r. ⌜ _≡_ {A = Result} (record { answer = r; array = now (array .entry); map = now (map .exit); hold = now (hold .entry); bytes = now (state .exit) }) (called (recover (record { blocks = blocks; pages = pages; logical = logical })) (now (array .entry)) (now (map .entry)) (now (hold .entry)) (now (state .entry))) ⌝ }
+    ensures { λ r. ⌜ _≡_ {A = Result} (record { answer = r; array = now (array .entry); map = now (map .exit); hold = now (hold .entry); bytes = now (state .exit) }) (started recover (record { blocks = blocks; pages = pages; logical = logical }) (now (array .entry)) (now (map .entry)) (now (hold .entry)) (now (state .entry))) ⌝ }
 {
-    if !encoding::encodes(state) {
+    if !sized(state) {
         return 1;
     }
     let g = Geometry {
@@ -84,7 +106,9 @@ pub extern "C" fn bokuhira_recover(
         pages,
         logical,
     };
-    let r = device(state).recover(array, map, hold, g);
+    let s = State::fresh(g);
+    let d = Device { state: s };
+    let r = d.recover(array, map, hold, g);
     finish(state, r)
 }
 

@@ -1,12 +1,12 @@
--- `bokuhira::bokuhira_format` meets its contract: of a state, by what the device replies. Assumes nothing.
+-- `bokuhira::bokuhira_format` meets its contract: of as many bytes as a state has, by what the device replies. Assumes nothing.
 use borrow.Author.Needs.{needs}
 use Rattle.model.specs.Commands.{format}
-use Rattle.bokuhira.proofs.Calls.{uncoded, coded, unmet, met}
+use Rattle.bokuhira.proofs.Calls.{unstarted, long, start-met}
 use Rattle.bokuhira.proofs.bokuhira_format.Statement.{statement}
 use Rattle.bokuhira.proofs.bokuhira_format.Tie as tie
 
-encodes-requires : tie.Need-encodes-requires
-encodes-requires c κs = search needs
+sized-requires : tie.Need-sized-requires
+sized-requires c κs = search needs
 
 same-length : tie.Need-same-length
 same-length c = search needs
@@ -14,16 +14,16 @@ same-length c = search needs
 returns : tie.Need-returns
 returns c =
     let g = c .before .before .before .before .before .before .before .args in
-    unmet (format (record { blocks = g .blocks; pages = g .pages; logical = g .logical })) (g .array .now) (g .map .now) (g .hold .now) (g .state .now) (uncoded _ (c .before .encodes .result) (c .before .encodes .ensures) (c .if1 .taken))
+    unstarted format (record { blocks = g .blocks; pages = g .pages; logical = g .logical }) (g .array .now) (g .map .now) (g .hold .now) (g .state .now) (c .before .sized .result) (c .before .sized .ensures) (c .if1 .taken)
 
-device-requires : tie.Need-device-requires
-device-requires c κs = coded _ (c .before .before .encodes .result) (c .before .before .encodes .ensures) (c .before .if1 .left)
+starting-requires : tie.Need-starting-requires
+starting-requires c κs = long _ (c .before .before .sized .result) (c .before .before .sized .ensures) (c .before .if1 .left)
 
 format-requires : tie.Need-format-requires
 format-requires c κs = search needs
 
 finish-requires : tie.Need-finish-requires
-finish-requires c κs = coded _ (c .before .before .before .before .before .before .before .before .before .before .before .encodes .result) (c .before .before .before .before .before .before .before .before .before .before .before .encodes .ensures) (c .before .before .before .before .before .before .before .before .before .before .if1 .left)
+finish-requires c κs = long _ (c .before .before .before .before .before .before .before .before .before .before .before .sized .result) (c .before .before .before .before .before .before .before .before .before .before .before .sized .ensures) (c .before .before .before .before .before .before .before .before .before .before .if1 .left)
 
 same-length-2 : tie.Need-same-length-2
 same-length-2 c = search needs
@@ -37,16 +37,16 @@ same-length-4 c = search needs
 returns-2 : tie.Need-returns-2
 returns-2 c =
     let g = c .before .before .before .before .before .before .before .before .before .before .before .before .before .before .before .before .before .before .before .before .args in
-    met (format (record { blocks = g .blocks; pages = g .pages; logical = g .logical })) (g .array .now) (g .map .now) (g .hold .now) (g .state .now) _ _ _ _ _ _ _ _ (coded _ (c .before .before .before .before .before .before .before .before .before .before .before .before .before .before .encodes .result) (c .before .before .before .before .before .before .before .before .before .before .before .before .before .before .encodes .ensures) (c .before .before .before .before .before .before .before .before .before .before .before .before .before .if1 .left)) (c .before .before .before .before .before .before .before .before .before .before .before .device .ensures) (c .before .before .before .before .before .before .before .before .format .ensures) (c .before .before .finish .ensures)
+    start-met format (record { blocks = g .blocks; pages = g .pages; logical = g .logical }) (g .array .now) (g .map .now) (g .hold .now) (g .state .now) _ _ _ _ _ _ _ _ (long _ (c .before .before .before .before .before .before .before .before .before .before .before .before .before .before .sized .result) (c .before .before .before .before .before .before .before .before .before .before .before .before .before .before .sized .ensures) (c .before .before .before .before .before .before .before .before .before .before .before .before .before .if1 .left)) (c .before .before .before .before .before .before .before .before .before .before .before .starting .ensures) (c .before .before .before .before .before .before .before .before .format .ensures) (c .before .before .finish .ensures)
 
 pub bokuhira-format-spec : {M : Type 1} → statement M
 bokuhira-format-spec =
     tie.close
     (tie.spec
-    encodes-requires
+    sized-requires
     same-length
     returns
-    device-requires
+    starting-requires
     format-requires
     finish-requires
     same-length-2

@@ -4,7 +4,7 @@ use mathlib.Core.Path.{_≡_}
 use mathlib.Core.Logic.{⊎-elim}
 use borrow.Author.Needs.{needs}
 use Rattle.model.specs.Answers.{refused}
-use Rattle.bokuhira.proofs.Calls.{coded-long, kept, stored, done-stands, more-stands}
+use Rattle.bokuhira.proofs.Calls.{kept, stored, done-stands, more-stands}
 use Rattle.bokuhira.proofs.finish.Statement.{statement}
 use Rattle.bokuhira.proofs.finish.Tie as tie
 
@@ -15,7 +15,7 @@ returns : tie.Need-returns
 returns c = kept _ _ _ _ (c .before .before .number .ensures) (c .before .if1 .taken) (c .if2 .taken)
 
 store-requires : tie.Need-store-requires
-store-requires c κs = coded-long _ (c .before .before .before .before .before .before .pre)
+store-requires c κs = c .before .before .before .before .before .before .pre
 
 same-length : tie.Need-same-length
 same-length c = search needs
