@@ -18,8 +18,9 @@ use Rattle.model.specs.declared.State.{State}
 use Rattle.arrays.specs.Tests.{and-left}
 use Rattle.arrays.specs.Ranges.{geometry-in}
 use Rattle.reporting.specs.Input.{says, illFormed, lineOf}
-use Rattle.reporting.specs.Text.{answerName, numberLine, stateText, Put}
-use Rattle.reporting.specs.Report.{outcomeText, emptyHold, lent, arrayReport, blocksName, pagesName, logicalName, reportOf}
+use Rattle.reporting.specs.Names.{blocksName, pagesName, logicalName, answerName}
+use Rattle.reporting.specs.Text.{numberLine, stateText, Put}
+use Rattle.reporting.specs.Report.{outcomeText, emptyHold, lent, arrayReport, reportOf}
 use Rattle.reporting.proofs.Putting.{puts, put-within}
 
 -- ---- a text that is another

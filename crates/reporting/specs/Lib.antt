@@ -1,3 +1,4 @@
+pub mod Names
 pub mod Input
 pub mod Text
 pub mod Report

@@ -10,7 +10,8 @@ use Rattle.model.specs.Frame.{freshState}
 use Rattle.model.specs.Commands.{Outcome, exec, recover}
 use Rattle.model.specs.declared.Geometry.{Geometry}
 use Rattle.reporting.specs.Input.{Line, says, illFormed, lineOf}
-use Rattle.reporting.specs.Text.{answerName, numberLine, stateText}
+use Rattle.reporting.specs.Names.{blocksName, pagesName, logicalName, answerName}
+use Rattle.reporting.specs.Text.{numberLine, stateText}
 
 -- "A refusal prints the answer line only"
 unfoldable pub outcomeText : Outcome → List ℕ
@@ -34,18 +35,6 @@ following (says v xs) f = f v xs
 following illFormed f = numberLine answerName 1
 
 -- "three lines, `blocks=8`, `pages=8`, `logical=16`, then the array"
-abbrev pub blocksName : List ℕ
-blocksName = 98 ∷ 108 ∷ 111 ∷ 99 ∷ 107 ∷ 115 ∷ 61 ∷ []
-
--- "pages="
-abbrev pub pagesName : List ℕ
-pagesName = 112 ∷ 97 ∷ 103 ∷ 101 ∷ 115 ∷ 61 ∷ []
-
--- "logical="
-abbrev pub logicalName : List ℕ
-logicalName = 108 ∷ 111 ∷ 103 ∷ 105 ∷ 99 ∷ 97 ∷ 108 ∷ 61 ∷ []
-
--- the report on an input
 unfoldable pub reportOf : List ℕ → List ℕ
 reportOf input =
     following (lineOf blocksName input) (λ (b : ℕ) (second : List ℕ).

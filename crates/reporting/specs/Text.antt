@@ -10,6 +10,7 @@ use Rattle.model.specs.Geometry.{unmapped}
 use Rattle.model.specs.Zones.{availableOf, unavailableOf, freeOf}
 use Rattle.model.specs.declared.Zones.{Zones}
 use Rattle.model.specs.declared.State.{State}
+use Rattle.reporting.specs.Names.{checkpointName, versionName, availableName, unavailableName, freeName, mappedName}
 
 -- a number in decimal, of at most k digits: the digits of a tenth of it, if there are any, and its last
 unfoldable pub digitsIn : ℕ → ℕ → List ℕ
@@ -36,35 +37,6 @@ numberLine name n = name ++ decimal n ++ (10 ∷ [])
 -- a line of blocks
 unfoldable pub blocksLine : List ℕ → List ℕ → List ℕ
 blocksLine name bs = name ++ listed 0 bs ++ (10 ∷ [])
-
--- ---- the names
--- "answer="
-abbrev pub answerName : List ℕ
-answerName = 97 ∷ 110 ∷ 115 ∷ 119 ∷ 101 ∷ 114 ∷ 61 ∷ []
-
--- "checkpoint="
-abbrev pub checkpointName : List ℕ
-checkpointName = 99 ∷ 104 ∷ 101 ∷ 99 ∷ 107 ∷ 112 ∷ 111 ∷ 105 ∷ 110 ∷ 116 ∷ 61 ∷ []
-
--- "version="
-abbrev pub versionName : List ℕ
-versionName = 118 ∷ 101 ∷ 114 ∷ 115 ∷ 105 ∷ 111 ∷ 110 ∷ 61 ∷ []
-
--- "available="
-abbrev pub availableName : List ℕ
-availableName = 97 ∷ 118 ∷ 97 ∷ 105 ∷ 108 ∷ 97 ∷ 98 ∷ 108 ∷ 101 ∷ 61 ∷ []
-
--- "unavailable="
-abbrev pub unavailableName : List ℕ
-unavailableName = 117 ∷ 110 ∷ 97 ∷ 118 ∷ 97 ∷ 105 ∷ 108 ∷ 97 ∷ 98 ∷ 108 ∷ 101 ∷ 61 ∷ []
-
--- "free="
-abbrev pub freeName : List ℕ
-freeName = 102 ∷ 114 ∷ 101 ∷ 101 ∷ 61 ∷ []
-
--- "mapped="
-abbrev pub mappedName : List ℕ
-mappedName = 109 ∷ 97 ∷ 112 ∷ 112 ∷ 101 ∷ 100 ∷ 61 ∷ []
 
 -- ---- the lines after the answer
 -- the logical pages that are mapped
