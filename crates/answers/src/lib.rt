@@ -1,4 +1,4 @@
-// Answers by document 01's numbers, for those who hand them on: 0 done, 255 more, else the refusal's number in the table.
+// Answers by the numbers of document 01 (docs/PAPERS.md), for those who hand them on: 0 done, 255 more, else the refusal's number in the table.
 ghost use mathlib.Core.Path.{_≡_};
 ghost use Rattle.model.specs.Answers.{refusalNumber, number};
 use model::Answer;

@@ -23,7 +23,7 @@ use Rattle.arrays.specs.Image.{SpareFits}
 use Rattle.arrays.specs.Arrays.{ProgramOk, Leans, image-ok, blank-leans, leans-apply, cut-struck, cut-same}
 use Rattle.arrays.specs.Scan.{Next, next-is}
 
--- ---- a device as small as document 01 admits
+-- ---- a device as small as document 01 (docs/PAPERS.md) admits
 small : Geometry
 small = record { blocks = 8; pages = 8; logical = 16 }
 

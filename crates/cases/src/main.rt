@@ -1,4 +1,5 @@
-// Bench cases l and m of document 01, each on an array of the program's own. Answers are document 01's numbers: 0 done, 255 more, else the refusal.
+// Bench cases l and m of document 01 (docs/PAPERS.md), each on an array of the program's own. Answers are its numbers: 0 done, 255 more, else the
+// refusal.
 ghost use Prim.Native.Nat.{_<_};
 ghost use lib.ListN.{length};
 use device::Device;

@@ -1,5 +1,5 @@
 // The ten commands. A device goes in and comes back, with the array, the map and the hold lent beside it.
-// Nothing is required of a caller: whatever is handed in, a command answers as document 01 says.
+// Nothing is required of a caller: whatever is handed in, a command answers as document 01 (docs/PAPERS.md) says.
 ghost use mathlib.Core.Path.{_≡_};
 ghost use mathlib.Core.Bool.{cond, not, _&&_};
 ghost use lib.Dec.{eqb, leb};

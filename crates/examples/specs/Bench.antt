@@ -1,5 +1,5 @@
--- The starred bench cases of document 01 as one table: a row is a case, its input and what document 01 says of it; one theorem says that
--- every row holds.
+-- The starred bench cases of document 01 (docs/PAPERS.md) as one table: a row is a case, its input and what document 01 says of it; one theorem
+-- says that every row holds.
 use Prim.Native.Nat.{ℕ, _+_, _-_, _*_}
 use mathlib.Core.Path.{_≡_, refl}
 use mathlib.Core.Bool.{Bool, true, false}

@@ -1,4 +1,4 @@
-// Document 01 as types and definitions: what a reader must believe. The types stand here, the definitions in specs/.
+// Document 01 (docs/PAPERS.md) as types and definitions: what a reader must believe. The types stand here, the definitions in specs/.
 // Everything is plain data by value; it assumes nothing.
 ghost use mathlib.Core.Path.{_≡_};
 ghost use Rattle.model.specs.Frame.{freePlace, freshState};

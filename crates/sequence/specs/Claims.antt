@@ -1,4 +1,4 @@
--- What document 01 claims on the way to demand 3, of the worlds of a sequence, each sentence as a theorem.
+-- What document 01 (docs/PAPERS.md) claims on the way to demand 3, of the worlds of a sequence, each sentence as a theorem.
 use mathlib.Core.Path.{_≡_, refl, sym, _∙_, subst}
 use mathlib.Core.Bool.{true, false, false≢true}
 use Prim.Native.Nat.{ℕ, _<_}
