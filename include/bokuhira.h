@@ -1,64 +1,43 @@
 /*
- * Bokuhira: the transactional flash layer of the switch, for callers in C and C++. Link libbokuhira.a, which `rt staticlib bokuhira`
- * writes (x86-64 Linux). It calls nothing but memcpy, memmove and memset, keeps no memory of its own and allocates none. Recover needs
- * 32 KiB of stack, every other function less than 24 KiB.
+ * Bokuhira: the transactional flash layer of the switch, for callers in C and C++. Link libbokuhira.a, which ./build leaves in dist/lib
+ * (x86-64 Linux). It calls nothing but memcpy, memmove and memset, keeps no memory of its own and allocates none.
+ * docs/FIRMWARE.md says how firmware uses it; examples/switch.c is a program to copy from.
  *
- * Every function takes the same four lent buffers, each as a pointer and a length, and answers with one number:
+ * Buffers. Every function takes the same four, lent, each as a pointer and a length:
  *
- *     0 done
- *   255 more: one stride of a format, a checkpoint or a reclaim is done; call again
- *     else the refusal's number (BOKUHIRA_BAD_FRAME ..). A refusal changes no byte of any buffer.
- *
- * One call programs at most one page or erases at most one block.
- *
- * The buffers
- *
- *   array   blocks x pages x 528 bytes: the flash array. blocks 8 to 128, pages a block 8 to 64. Page q of block b begins at byte
- *           (b x pages + q) x 528; 512 bytes of data are followed by 16 of spare.
- *   map     `logical` numbers of 16 bits; its length counts numbers, not bytes. logical 1 to 1024 and at most (blocks - 6) x pages.
+ *   array   blocks x pages x 528 bytes: the flash array. Page q of block b begins at byte (b x pages + q) x 528; 512 bytes of data are
+ *           followed by 16 of spare.
+ *   map     `logical` numbers of 16 bits; its length counts numbers, not bytes.
  *   hold    BOKUHIRA_HOLD bytes: the page that each open change holds.
  *   state   BOKUHIRA_STATE bytes, laid out as below.
  *
- * Values are free: whatever the buffers hold and however long they are, a call answers as document 01 says, and lengths that do not fit
- * are refused with 1. Pointers are not checked: each must point to as many elements as its length says, must not be null (not even for
- * length 0), and a map must be aligned for 16 bits. The buffers of one call must not overlap one another, nor *at of bokuhira_read.
+ * Values are free: whatever the buffers hold and however long they are, a call answers as document 01 (docs/PAPERS.md) says, and lengths
+ * that do not fit are refused with 1. Pointers are not checked: each must point to as many elements as its length says, must not be null
+ * (not even for length 0), and a map must be aligned for 16 bits. The buffers of one call must not overlap one another, nor *at of
+ * bokuhira_read. Besides them a call needs stack: BOKUHIRA_STACK.
  *
- * Threads: the functions share nothing. Calls on different buffers may run at the same time. Calls on the same buffers must be made one
- * after the other, with a lock or a thread of their own; so may read alone, if nobody writes the buffers meanwhile.
+ * Answers. Each function answers with one number: 0 done; 255 more (one stride of a format, a checkpoint or a reclaim is done: call
+ * again); else a refusal's, which changes no byte of any buffer. One call programs at most one page or erases at most one block.
  *
- * The first call on a device is a format or a recover; any state that encodes one will do for it, such as BOKUHIRA_STATE zero bytes.
- * After a power cut, state, map and hold are lost: recover makes map and state from the array.
+ * Words. docs/FORMAT.md has them with the bytes.
  *
- * The state, little-endian, with nothing left between the fields:
+ *   page        erased: all 528 bytes are 0xFF; else whole: the number in its spare area agrees with the zero bits counted; else torn,
+ *               as a cut leaves it: it belongs to nobody. The clean pages of a block are those after its last that is not erased.
+ *   front       blocks 0 and 1, which take the checkpoints. The others are data blocks.
+ *   zone        each data block is in one: available (up to three, which take the next pages), unavailable (full, and a recovery reads
+ *               its pages), free (erased), or checkpointed (in no list: what it still holds stands in the checkpoint's map).
+ *   scan order  the unavailable blocks, then the available ones, each from page 0: what a recovery reads besides the front.
+ *   change      an open transaction: pages that are saved together, all or none, under an identifier that the caller chooses. It has
+ *               one of eight places, and its newest page is held in memory, until the next write or the commit programs it.
+ *   stride      what one call does of a command that takes several.
  *
- *   offset  bytes  field
- *        0      2  blocks
- *        2      2  pages a block
- *        4      2  logical pages
- *        6      3  available blocks, one byte each, in zone order
- *        9      1  how many of them count
- *       10    126  unavailable blocks
- *      136      1  how many of them count
- *      137    126  free blocks, ascending
- *      263      1  how many of them count
- *      264      1  pointer: from where the next free block is taken
- *      265      4  last version
- *      269      4  checkpoint number
- *      273      1  front block, 0 or 1
- *      274      1  first page of the checkpoint under way, else 0
- *      275      1  kind of the work under way: 0 none, 1 format, 2 checkpoint, 3 reclaim
- *      276      2  stride number: of a format its strides done, of a checkpoint its pages programmed, else 0
- *      278   2088  8 places of 261 bytes
+ * Threads. The functions share nothing: calls on different buffers may run at the same time. On the same buffers bokuhira_read may run
+ * at the same time as itself, each call with its own *at. Every other call on them must be alone: with a lock, or from one thread.
  *
- *   Place i begins at 278 + 261 x i:
- *
- *        0      4  identifier of the change, 0 where the place is free
- *        4      1  pages written, 0 to 64; the last of them is held, those before it are programmed
- *        5    128  their logical pages, 64 numbers of 2 bytes
- *      133    128  the pages they are programmed on, 64 numbers of 2 bytes
- *
- *   Bytes encode a state if they are 2,366, the kind is 0 to 3, and the stride number is 0 where the kind is 0 or 3. Other bytes are
- *   refused with 1 by every function. What a state must say besides, to be in range, is part of refusal 1 too.
+ * Power-up. The first call on a device is a recover or a format, and these two take any BOKUHIRA_STATE bytes, such as the RAM has after
+ * a power cut: bytes that encode no state count as a fresh state. Every other function refuses such bytes with 1. Recover makes map and
+ * state from the array; it does not look at what they were. A format does look: it goes on with a format of the same geometry that the
+ * state says is under way. To begin one for certain, hand in a state of zeros.
  */
 #ifndef BOKUHIRA_H
 #define BOKUHIRA_H
@@ -70,46 +49,177 @@
 extern "C" {
 #endif
 
-/* Lengths, in bytes. */
+#define BOKUHIRA_VERSION_MAJOR 0
+#define BOKUHIRA_VERSION_MINOR 1
+#define BOKUHIRA_VERSION_PATCH 0
+#define BOKUHIRA_VERSION "0.1.0"
+
+/*
+ * The state: each field by its offset, little-endian, with nothing left between the fields. BOKUHIRA_STATE bytes encode a state if the
+ * kind is 0 to 3 and the stride number is 0 where the kind is 0 or 3. What a state must say besides, to be in range, is part of
+ * refusal 1. Entries of a list past its count are not looked at.
+ */
+#define BOKUHIRA_AT_BLOCKS 0              /* 2 bytes */
+#define BOKUHIRA_AT_PAGES 2               /* 2 bytes: pages a block */
+#define BOKUHIRA_AT_LOGICAL 4             /* 2 bytes: logical pages */
+#define BOKUHIRA_AT_AVAILABLE 6           /* 3 bytes: the available blocks, in zone order */
+#define BOKUHIRA_AT_AVAILABLE_COUNT 9     /* 1 byte: how many of them count */
+#define BOKUHIRA_AT_UNAVAILABLE 10        /* 126 bytes: the unavailable blocks, in zone order */
+#define BOKUHIRA_AT_UNAVAILABLE_COUNT 136 /* 1 byte */
+#define BOKUHIRA_AT_FREE 137              /* 126 bytes: the free blocks, ascending */
+#define BOKUHIRA_AT_FREE_COUNT 263        /* 1 byte */
+#define BOKUHIRA_AT_POINTER 264           /* 1 byte: from which block on the next free one is taken */
+#define BOKUHIRA_AT_VERSION 265           /* 4 bytes: last version */
+#define BOKUHIRA_AT_CHECKPOINT 269        /* 4 bytes: checkpoint number */
+#define BOKUHIRA_AT_FRONT 273             /* 1 byte: front block, 0 or 1 */
+#define BOKUHIRA_AT_FIRST 274             /* 1 byte: first page of the checkpoint under way, else 0 */
+#define BOKUHIRA_AT_KIND 275              /* 1 byte: the work under way, BOKUHIRA_KIND_.. */
+#define BOKUHIRA_AT_STRIDE 276            /* 2 bytes: of a format its strides done, of a checkpoint its pages programmed, else 0 */
+#define BOKUHIRA_AT_PLACES 278            /* BOKUHIRA_PLACES places of BOKUHIRA_PLACE bytes */
+#define BOKUHIRA_STATE 2366
+
+#define BOKUHIRA_KIND_NONE 0
+#define BOKUHIRA_KIND_FORMAT 1
+#define BOKUHIRA_KIND_CHECKPOINT 2
+#define BOKUHIRA_KIND_RECLAIM 3
+
+/* Within a place. */
+#define BOKUHIRA_PLACE_IDENTIFIER 0 /* 4 bytes: of the change, 0 where the place is free */
+#define BOKUHIRA_PLACE_COUNT 4      /* 1 byte: pages written; the last of them is held, those before it are programmed */
+#define BOKUHIRA_PLACE_LOGICAL 5    /* 128 bytes: their logical pages, 64 numbers of 2 bytes */
+#define BOKUHIRA_PLACE_PAGES 133    /* 128 bytes: the pages they are programmed on, 64 numbers of 2 bytes */
+#define BOKUHIRA_PLACE 261
+
+/* Lengths, in bytes. BOKUHIRA_ARRAY and BOKUHIRA_ARRAY_MAX are of type size_t; every other number here may stand in #if too. */
 #define BOKUHIRA_PAGE 528 /* a page in the array */
 #define BOKUHIRA_DATA 512 /* the data of a page */
 #define BOKUHIRA_HOLD 4096
-#define BOKUHIRA_STATE 2366
+#define BOKUHIRA_ARRAY(blocks, pages) ((size_t)(blocks) * (size_t)(pages) * BOKUHIRA_PAGE)
+#define BOKUHIRA_ARRAY_MAX BOKUHIRA_ARRAY(BOKUHIRA_BLOCKS_MAX, BOKUHIRA_PAGES_MAX)
 
-/* A map entry of a logical page that was never written. */
+/*
+ * Stack for a call. Recover takes less than 32 KiB, every other function less than 24 KiB; this is half as much again. It is true of
+ * the archive as the kit compiles it for x86-64: measured (docs/BENCHMARKS.md), and added up from the frames, since nothing in it calls
+ * itself or through a pointer. The caller's own frames, and interrupts on the same stack, come on top.
+ */
+#define BOKUHIRA_STACK 49152
+
+/* Limits. */
+#define BOKUHIRA_PLACES 8        /* open changes */
+#define BOKUHIRA_CHANGE_PAGES 64 /* pages of a change */
+#define BOKUHIRA_BLOCKS_MIN 8
+#define BOKUHIRA_BLOCKS_MAX 128
+#define BOKUHIRA_PAGES_MIN 8 /* pages of a block */
+#define BOKUHIRA_PAGES_MAX 64
+#define BOKUHIRA_LOGICAL_MIN 1 /* logical pages */
+#define BOKUHIRA_LOGICAL_MAX 1024
+
+/* Whether a geometry is in range. */
+#define BOKUHIRA_GEOMETRY(blocks, pages, logical)                              \
+    ((blocks) >= BOKUHIRA_BLOCKS_MIN && (blocks) <= BOKUHIRA_BLOCKS_MAX        \
+     && (pages) >= BOKUHIRA_PAGES_MIN && (pages) <= BOKUHIRA_PAGES_MAX         \
+     && (logical) >= BOKUHIRA_LOGICAL_MIN && (logical) <= BOKUHIRA_LOGICAL_MAX \
+     && (logical) <= ((blocks) - 6) * (pages))
+
+/* The map pages of a checkpoint, which has the zone page besides. */
+#define BOKUHIRA_MAP_PAGES(logical) (((logical) + 255) / 256)
+
+/* The map entry of a logical page that was never written. */
 #define BOKUHIRA_UNMAPPED 0xFFFF
 
-/* Answers. */
+/* Answers. bokuhira_text says each in a line; here stands what a line cannot say. */
 #define BOKUHIRA_DONE 0
+#define BOKUHIRA_BAD_FRAME 1 /* geometry or a buffer length out of range; bytes that encode no state; a map or zone list that 3 would
+                                refuse; a place with over 64 pages, an identifier that 6 refuses, one that two places share, or a
+                                logical page or data page number out of range; pointer, front place or stride number out of range;
+                                the next front page of a stride under way not erased */
+#define BOKUHIRA_NO_CHECKPOINT 2
+#define BOKUHIRA_BAD_CHECKPOINT 3 /* or say something twice */
+#define BOKUHIRA_BAD_PAGE 4
+#define BOKUHIRA_BAD_LOGICAL_PAGE 5
+#define BOKUHIRA_BAD_IDENTIFIER 6
+#define BOKUHIRA_IDENTIFIER_LIVE 7 /* a closed change's pages are in scan order until a checkpoint has made their blocks checkpointed */
+#define BOKUHIRA_NOT_BEGUN 8
+#define BOKUHIRA_PLACES_FULL 9
+#define BOKUHIRA_TOO_LONG 10
+#define BOKUHIRA_BAD_LENGTH 11
+#define BOKUHIRA_ZONE_SHORT 12     /* a page must be programmed, and no more clean pages are available than a block has pages */
+#define BOKUHIRA_VERSIONS_SPENT 13 /* a number above 0xFFFFFFFE would be needed */
+#define BOKUHIRA_NEVER_WRITTEN 14
+#define BOKUHIRA_NO_GAIN 15
+#define BOKUHIRA_RESERVE_SHORT 16
+#define BOKUHIRA_BUSY 17
 #define BOKUHIRA_MORE 255
 
-/* Refusals: the number, the trade's word, and when. */
-#define BOKUHIRA_BAD_FRAME 1        /* geometry or a buffer length out of range; bytes that encode no state; a map or zone list that 3 would
-                                       refuse; a place with over 64 pages, an identifier that 6 refuses, one that two places share, or a
-                                       logical page or data page number out of range; pointer, front place or stride number out of range;
-                                       the next front page of a stride under way not erased */
-#define BOKUHIRA_NO_CHECKPOINT 2    /* no complete checkpoint stands on the array */
-#define BOKUHIRA_BAD_CHECKPOINT 3   /* the newest one's map or zone lists are out of range or repeat an entry */
-#define BOKUHIRA_BAD_PAGE 4         /* a whole page that recover scans breaks the rules of the spare area */
-#define BOKUHIRA_BAD_LOGICAL_PAGE 5 /* lpn is not below the number of logical pages */
-#define BOKUHIRA_BAD_IDENTIFIER 6   /* 0 or 0xFFFFFFFF */
-#define BOKUHIRA_IDENTIFIER_LIVE 7  /* of an open change, or on a whole page in scan order; a checkpoint frees those that are done with */
-#define BOKUHIRA_NOT_BEGUN 8        /* no open change has this identifier */
-#define BOKUHIRA_PLACES_FULL 9      /* eight changes are open */
-#define BOKUHIRA_TOO_LONG 10        /* the change has 64 pages already */
-#define BOKUHIRA_BAD_LENGTH 11      /* the data are not 512 bytes */
-#define BOKUHIRA_ZONE_SHORT 12      /* a page must be programmed and no more clean pages are available than a block has: checkpoint first */
-#define BOKUHIRA_VERSIONS_SPENT 13  /* a version or checkpoint number above 0xFFFFFFFE would be needed */
-#define BOKUHIRA_NEVER_WRITTEN 14   /* the logical page is unmapped */
-#define BOKUHIRA_NO_GAIN 15         /* no checkpointed block has an unmapped page */
-#define BOKUHIRA_RESERVE_SHORT 16   /* fewer clean pages are available than must be copied */
-#define BOKUHIRA_BUSY 17            /* another command of several strides is under way: finish it first */
+/* The word of an answer. */
+static inline const char *bokuhira_word(uint8_t answer)
+{
+    switch (answer) {
+    case BOKUHIRA_DONE: return "done";
+    case BOKUHIRA_BAD_FRAME: return "bad frame";
+    case BOKUHIRA_NO_CHECKPOINT: return "no checkpoint";
+    case BOKUHIRA_BAD_CHECKPOINT: return "bad checkpoint";
+    case BOKUHIRA_BAD_PAGE: return "bad page";
+    case BOKUHIRA_BAD_LOGICAL_PAGE: return "bad logical page";
+    case BOKUHIRA_BAD_IDENTIFIER: return "bad identifier";
+    case BOKUHIRA_IDENTIFIER_LIVE: return "identifier live";
+    case BOKUHIRA_NOT_BEGUN: return "not begun";
+    case BOKUHIRA_PLACES_FULL: return "places full";
+    case BOKUHIRA_TOO_LONG: return "too long";
+    case BOKUHIRA_BAD_LENGTH: return "bad length";
+    case BOKUHIRA_ZONE_SHORT: return "zone short";
+    case BOKUHIRA_VERSIONS_SPENT: return "versions spent";
+    case BOKUHIRA_NEVER_WRITTEN: return "never written";
+    case BOKUHIRA_NO_GAIN: return "no gain";
+    case BOKUHIRA_RESERVE_SHORT: return "reserve short";
+    case BOKUHIRA_BUSY: return "busy";
+    case BOKUHIRA_MORE: return "more";
+    default: return "unknown answer";
+    }
+}
+
+/* What an answer says, in one line. */
+static inline const char *bokuhira_text(uint8_t answer)
+{
+    switch (answer) {
+    case BOKUHIRA_DONE: return "done";
+    case BOKUHIRA_BAD_FRAME: return "geometry, a buffer's length or the state is out of range";
+    case BOKUHIRA_NO_CHECKPOINT: return "no complete checkpoint stands on the array";
+    case BOKUHIRA_BAD_CHECKPOINT: return "the newest checkpoint's map or zone lists are out of range";
+    case BOKUHIRA_BAD_PAGE: return "a whole page in scan order breaks the rules of the spare area";
+    case BOKUHIRA_BAD_LOGICAL_PAGE: return "the logical page is not below the number of logical pages";
+    case BOKUHIRA_BAD_IDENTIFIER: return "0 and 4294967295 are no identifiers";
+    case BOKUHIRA_IDENTIFIER_LIVE: return "the identifier is of an open change or stands on a page in scan order; take another";
+    case BOKUHIRA_NOT_BEGUN: return "no open change has this identifier";
+    case BOKUHIRA_PLACES_FULL: return "eight changes are open; commit or abort one";
+    case BOKUHIRA_TOO_LONG: return "the change has as many pages as a change may have";
+    case BOKUHIRA_BAD_LENGTH: return "the data are not 512 bytes";
+    case BOKUHIRA_ZONE_SHORT: return "too few clean pages are available; checkpoint, then reclaim";
+    case BOKUHIRA_VERSIONS_SPENT: return "no version or checkpoint number is left";
+    case BOKUHIRA_NEVER_WRITTEN: return "the logical page was never written";
+    case BOKUHIRA_NO_GAIN: return "no checkpointed block has an unmapped page";
+    case BOKUHIRA_RESERVE_SHORT: return "fewer clean pages are available than must be copied";
+    case BOKUHIRA_BUSY: return "another command of several strides is under way; finish it first";
+    case BOKUHIRA_MORE: return "one stride is done; call again";
+    default: return "unknown answer";
+    }
+}
+
+/* An answer that is ignored is a setting that may be lost: the compiler warns, where it can. */
+#if (defined(__cplusplus) && __cplusplus >= 201703L) || (defined(__STDC_VERSION__) && __STDC_VERSION__ >= 202311L)
+#define BOKUHIRA_CHECKED [[nodiscard]]
+#elif defined(__GNUC__) || defined(__clang__)
+#define BOKUHIRA_CHECKED __attribute__((warn_unused_result))
+#else
+#define BOKUHIRA_CHECKED
+#endif
 
 /*
  * One stride of a format: the device becomes one of this geometry, with every logical page unmapped. Call it with the same arguments
  * until it answers done; another geometry starts anew. It goes on from the state alone: the array's old content is erased.
  * Changes array, map, state. Refuses: 1 (for geometry, lengths and a format of this geometry under way that is out of range).
  */
+BOKUHIRA_CHECKED
 uint8_t bokuhira_format(uint8_t *array, size_t array_len, uint16_t *map, size_t map_len, const uint8_t *hold, size_t hold_len,
                         uint8_t *state, size_t state_len, uint16_t blocks, uint16_t pages, uint16_t logical);
 
@@ -117,6 +227,7 @@ uint8_t bokuhira_format(uint8_t *array, size_t array_len, uint16_t *map, size_t 
  * Makes map and state from what stands on the array. It programs nothing, and no change is open after it.
  * Changes map, state. Refuses: 1 (for geometry and lengths), 2, 3, 4.
  */
+BOKUHIRA_CHECKED
 uint8_t bokuhira_recover(const uint8_t *array, size_t array_len, uint16_t *map, size_t map_len, const uint8_t *hold, size_t hold_len,
                          uint8_t *state, size_t state_len, uint16_t blocks, uint16_t pages, uint16_t logical);
 
@@ -124,13 +235,15 @@ uint8_t bokuhira_recover(const uint8_t *array, size_t array_len, uint16_t *map, 
  * Opens a change with this identifier, in the lowest free place.
  * Changes state. Refuses: 1, 17, 6, 7, 9.
  */
+BOKUHIRA_CHECKED
 uint8_t bokuhira_begin(const uint8_t *array, size_t array_len, const uint16_t *map, size_t map_len, const uint8_t *hold, size_t hold_len,
                        uint8_t *state, size_t state_len, uint32_t id);
 
 /*
  * Adds a page to an open change. The page is held; the one held before it is programmed. Reads do not see it until the commit.
- * Changes array, hold, state. Refuses: 1, 17, 11, 5, 8, 10, 12.
+ * Changes array, hold, state. Refuses: 1, 17, 11, 5, 8, 10, 12 (the last only where a page is held).
  */
+BOKUHIRA_CHECKED
 uint8_t bokuhira_write(uint8_t *array, size_t array_len, const uint16_t *map, size_t map_len, uint8_t *hold, size_t hold_len,
                        uint8_t *state, size_t state_len, const uint8_t *data, size_t data_len, uint32_t id, uint16_t lpn);
 
@@ -138,14 +251,16 @@ uint8_t bokuhira_write(uint8_t *array, size_t array_len, const uint16_t *map, si
  * Writes one page, as a change by itself.
  * Changes array, map, state. Refuses: 1, 17, 11, 5, 13, 12.
  */
+BOKUHIRA_CHECKED
 uint8_t bokuhira_lone(uint8_t *array, size_t array_len, uint16_t *map, size_t map_len, const uint8_t *hold, size_t hold_len,
                       uint8_t *state, size_t state_len, const uint8_t *data, size_t data_len, uint16_t lpn);
 
 /*
  * Closes a change and enters all its pages, in the order in which they were written. From here on they outlive a power cut. A change
- * with nothing written is closed with no page and no version.
+ * with nothing written is closed with no page and no version. Refused, it stays open.
  * Changes array, map, state. Refuses: 1, 17, 8, 13, 12 (the last two only where a page is held).
  */
+BOKUHIRA_CHECKED
 uint8_t bokuhira_commit(uint8_t *array, size_t array_len, uint16_t *map, size_t map_len, const uint8_t *hold, size_t hold_len,
                         uint8_t *state, size_t state_len, uint32_t id);
 
@@ -153,6 +268,7 @@ uint8_t bokuhira_commit(uint8_t *array, size_t array_len, uint16_t *map, size_t 
  * Forgets an open change. Its identifier stays live while a page with it is in scan order.
  * Changes state. Refuses: 1, 17, 8.
  */
+BOKUHIRA_CHECKED
 uint8_t bokuhira_abort(const uint8_t *array, size_t array_len, const uint16_t *map, size_t map_len, const uint8_t *hold, size_t hold_len,
                        uint8_t *state, size_t state_len, uint32_t id);
 
@@ -161,6 +277,7 @@ uint8_t bokuhira_abort(const uint8_t *array, size_t array_len, const uint16_t *m
  * are not copied, and stay there until the next call that changes the array. Refused: *at is unchanged.
  * Changes *at. Refuses: 1, 5, 14; it is never busy.
  */
+BOKUHIRA_CHECKED
 uint8_t bokuhira_read(const uint8_t *array, size_t array_len, const uint16_t *map, size_t map_len, const uint8_t *hold, size_t hold_len,
                       const uint8_t *state, size_t state_len, size_t *at, uint16_t lpn);
 
@@ -169,6 +286,7 @@ uint8_t bokuhira_read(const uint8_t *array, size_t array_len, const uint16_t *ma
  * again from the free ones. Call it until it answers done.
  * Changes array, state. Refuses: 1, 17, 13.
  */
+BOKUHIRA_CHECKED
 uint8_t bokuhira_checkpoint(uint8_t *array, size_t array_len, const uint16_t *map, size_t map_len, const uint8_t *hold, size_t hold_len,
                             uint8_t *state, size_t state_len);
 
@@ -177,6 +295,7 @@ uint8_t bokuhira_checkpoint(uint8_t *array, size_t array_len, const uint16_t *ma
  * Call it until it answers done.
  * Changes array, map, state. Refuses: 1, 17, 15, 13, 16.
  */
+BOKUHIRA_CHECKED
 uint8_t bokuhira_reclaim(uint8_t *array, size_t array_len, uint16_t *map, size_t map_len, const uint8_t *hold, size_t hold_len,
                          uint8_t *state, size_t state_len);
 

@@ -1,18 +1,20 @@
 /*
- * A short session through the C interface on a device of 8 blocks of 8 pages with 16 logical pages. Every answer, and every byte that
- * an answer speaks of, is checked; the first that differs ends the program with status 1.
+ * A short session through the C interface on a device of 8 blocks of 8 pages with 16 logical pages, in a thread that has BOKUHIRA_STACK
+ * bytes of stack. Every answer, and every byte that an answer speaks of, is checked; the first that differs ends the program with
+ * status 1.
  */
+#include <pthread.h>
 #include <stdio.h>
 #include <stdlib.h>
 #include <string.h>
 
 #include "bokuhira.h"
 
-enum { BLOCKS = 8, PAGES = 8, LOGICAL = 16, ARRAY = BLOCKS * PAGES * BOKUHIRA_PAGE, KIND = 275, STRIDE = 276, FREE_COUNT = 263 };
+enum { BLOCKS = 8, PAGES = 8, LOGICAL = 16 };
 
 /* A device as its caller lends it. */
 struct lent {
-    uint8_t array[ARRAY];
+    uint8_t array[BOKUHIRA_ARRAY(BLOCKS, PAGES)];
     uint16_t map[LOGICAL];
     uint8_t hold[BOKUHIRA_HOLD];
     uint8_t state[BOKUHIRA_STATE];
@@ -65,30 +67,78 @@ static uint8_t lone(uint16_t lpn, uint8_t byte) { return bokuhira_lone(LENT, fil
 static uint8_t commit(uint32_t id) { return bokuhira_commit(LENT, id); }
 static uint8_t recover(void) { return bokuhira_recover(LENT, BLOCKS, PAGES, LOGICAL); }
 
-/* A power cut: what is not flash is lost. */
+/* A field of the state. */
+static uint32_t field(size_t at, int bytes)
+{
+    uint32_t n = 0;
+    while (bytes-- > 0)
+        n = n << 8 | d.state[at + (size_t)bytes];
+    return n;
+}
+
+/* Whether a list of blocks in the state is these. */
+static int blocks(size_t at, size_t count_at, const char *list)
+{
+    return d.state[count_at] == strlen(list) && memcmp(d.state + at, list, strlen(list)) == 0;
+}
+
+/* A power cut: what is not flash holds anything afterwards. Such state bytes encode no state. */
 static void cut(void)
 {
     memset(d.map, 0xA5, sizeof d.map);
     memset(d.hold, 0xA5, sizeof d.hold);
-    memset(d.state, 0, sizeof d.state);
+    memset(d.state, 0xA5, sizeof d.state);
 }
 
-/* Every function refuses these state bytes with 1. */
+/* Function n of the ten, the two that take any state first, on these state bytes. */
+static uint8_t any(int n, uint8_t *state, size_t state_len)
+{
+#define ON d.array, sizeof d.array, d.map, LOGICAL, d.hold, sizeof d.hold, state, state_len
+    switch (n) {
+    case 0: return bokuhira_format(ON, BLOCKS, PAGES, LOGICAL);
+    case 1: return bokuhira_recover(ON, BLOCKS, PAGES, LOGICAL);
+    case 2: return bokuhira_begin(ON, 1);
+    case 3: return bokuhira_write(ON, data, sizeof data, 1, 0);
+    case 4: return bokuhira_lone(ON, data, sizeof data, 0);
+    case 5: return bokuhira_commit(ON, 1);
+    case 6: return bokuhira_abort(ON, 1);
+    case 7: return bokuhira_read(ON, &d.at, 0);
+    case 8: return bokuhira_checkpoint(ON);
+    default: return bokuhira_reclaim(ON);
+    }
+#undef ON
+}
+
+/* With this byte in it a state of zeros encodes none: recover and format take it as a state of zeros, on an array that has no
+   checkpoint; the others refuse it. */
 static void no_state(size_t at, uint8_t byte)
 {
-    uint8_t old = d.state[at];
+    static struct lent old, fresh;
+    int n;
+
+    memset(d.state, 0, sizeof d.state);
+    memcpy(&old, &d, sizeof d);
+    CHECK(any(0, d.state, sizeof d.state) == BOKUHIRA_MORE);
+    memcpy(&fresh, &d, sizeof d);
+    memcpy(&d, &old, sizeof d);
     d.state[at] = byte;
-    REFUSED(BOKUHIRA_BAD_FRAME, bokuhira_format(LENT, BLOCKS, PAGES, LOGICAL));
-    REFUSED(BOKUHIRA_BAD_FRAME, recover());
-    REFUSED(BOKUHIRA_BAD_FRAME, begin(1));
-    REFUSED(BOKUHIRA_BAD_FRAME, put(1, 0, 1));
-    REFUSED(BOKUHIRA_BAD_FRAME, lone(0, 1));
-    REFUSED(BOKUHIRA_BAD_FRAME, commit(1));
-    REFUSED(BOKUHIRA_BAD_FRAME, bokuhira_abort(LENT, 1));
-    REFUSED(BOKUHIRA_BAD_FRAME, bokuhira_read(LENT, &d.at, 0));
-    REFUSED(BOKUHIRA_BAD_FRAME, bokuhira_checkpoint(LENT));
-    REFUSED(BOKUHIRA_BAD_FRAME, bokuhira_reclaim(LENT));
-    d.state[at] = old;
+    for (n = 2; n < 10; n++)
+        REFUSED(BOKUHIRA_BAD_FRAME, any(n, d.state, sizeof d.state));
+    REFUSED(BOKUHIRA_NO_CHECKPOINT, recover());
+    CHECK(any(0, d.state, sizeof d.state) == BOKUHIRA_MORE);
+    CHECK(memcmp(&fresh, &d, sizeof d) == 0);
+    memcpy(&d, &old, sizeof d);
+}
+
+/* Every function refuses a state of another length. */
+static void no_length(size_t state_len)
+{
+    static uint8_t state[BOKUHIRA_STATE + 1], zero[BOKUHIRA_STATE + 1];
+    int n;
+
+    for (n = 0; n < 10; n++)
+        REFUSED(BOKUHIRA_BAD_FRAME, any(n, state, state_len));
+    CHECK(memcmp(state, zero, sizeof state) == 0);
 }
 
 /* Strides until done; how many. */
@@ -102,31 +152,38 @@ static int checkpoint(void)
     return n;
 }
 
-int main(void)
+static void *session(void *nothing)
 {
     int i, n;
     uint8_t free_blocks;
     static struct lent old, after;
-    size_t page, byte;
+    size_t page, byte, place = BOKUHIRA_AT_PLACES;
 
     /* bytes that encode no state; a device that was never formatted */
     memset(d.array, 0x5A, sizeof d.array);
+    no_state(BOKUHIRA_AT_KIND, 4);
+    no_state(BOKUHIRA_AT_KIND, 255);
+    no_state(BOKUHIRA_AT_STRIDE, 1);
+    no_state(BOKUHIRA_AT_STRIDE + 1, 1);
+    no_length(0);
+    no_length(BOKUHIRA_STATE - 1);
+    no_length(BOKUHIRA_STATE + 1);
     cut();
-    no_state(KIND, 4);
-    no_state(STRIDE, 1);
-    no_state(STRIDE + 1, 1);
-    REFUSED(BOKUHIRA_BAD_FRAME, bokuhira_begin(d.array, sizeof d.array, d.map, LOGICAL, d.hold, sizeof d.hold, d.state, sizeof d.state - 1, 1));
     REFUSED(BOKUHIRA_BAD_FRAME, begin(1));
     REFUSED(BOKUHIRA_NO_CHECKPOINT, recover());
     REFUSED(BOKUHIRA_BAD_FRAME, bokuhira_format(LENT, 7, PAGES, LOGICAL));
 
     /* format: a stride for each block, each map page and the zone page */
-    for (i = 0; i < BLOCKS + 1; i++) {
+    for (i = 0; i < BLOCKS + BOKUHIRA_MAP_PAGES(LOGICAL); i++) {
         CHECK(bokuhira_format(LENT, BLOCKS, PAGES, LOGICAL) == BOKUHIRA_MORE);
+        CHECK(d.state[BOKUHIRA_AT_KIND] == BOKUHIRA_KIND_FORMAT && field(BOKUHIRA_AT_STRIDE, 2) == (uint32_t)i + 1);
         REFUSED(BOKUHIRA_BUSY, begin(1));
     }
     CHECK(bokuhira_format(LENT, BLOCKS, PAGES, LOGICAL) == BOKUHIRA_DONE);
-    CHECK(d.state[0] == BLOCKS && d.state[2] == PAGES && d.state[4] == LOGICAL && d.state[KIND] == 0);
+    CHECK(field(BOKUHIRA_AT_BLOCKS, 2) == BLOCKS && field(BOKUHIRA_AT_PAGES, 2) == PAGES && field(BOKUHIRA_AT_LOGICAL, 2) == LOGICAL);
+    CHECK(blocks(BOKUHIRA_AT_AVAILABLE, BOKUHIRA_AT_AVAILABLE_COUNT, "\2\3\4") && blocks(BOKUHIRA_AT_FREE, BOKUHIRA_AT_FREE_COUNT, "\5\6\7"));
+    CHECK(blocks(BOKUHIRA_AT_UNAVAILABLE, BOKUHIRA_AT_UNAVAILABLE_COUNT, "") && d.state[BOKUHIRA_AT_POINTER] == 5);
+    CHECK(field(BOKUHIRA_AT_VERSION, 4) == 0 && field(BOKUHIRA_AT_CHECKPOINT, 4) == 1 && d.state[BOKUHIRA_AT_KIND] == BOKUHIRA_KIND_NONE);
     for (i = 0; i < LOGICAL; i++)
         REFUSED(BOKUHIRA_NEVER_WRITTEN, bokuhira_read(LENT, &d.at, (uint16_t)i));
     REFUSED(BOKUHIRA_BAD_LOGICAL_PAGE, bokuhira_read(LENT, &d.at, LOGICAL));
@@ -141,7 +198,13 @@ int main(void)
     REFUSED(BOKUHIRA_BAD_LENGTH, bokuhira_write(LENT, data, BOKUHIRA_DATA - 1, 7, 3));
     REFUSED(BOKUHIRA_NOT_BEGUN, put(8, 3, 0x33));
     REFUSED(BOKUHIRA_NEVER_WRITTEN, bokuhira_read(LENT, &d.at, 3));
-    CHECK(commit(7) == BOKUHIRA_DONE);
+    CHECK(field(place + BOKUHIRA_PLACE_IDENTIFIER, 4) == 7 && d.state[place + BOKUHIRA_PLACE_COUNT] == 2);
+    CHECK(field(place + BOKUHIRA_PLACE_LOGICAL, 2) == 3 && field(place + BOKUHIRA_PLACE_LOGICAL + 2, 2) == 4);
+    CHECK(field(place + BOKUHIRA_PLACE_PAGES, 2) == 2 * PAGES);
+    CHECK(begin(0x12345678) == BOKUHIRA_DONE);
+    CHECK(field(place + BOKUHIRA_PLACE + BOKUHIRA_PLACE_IDENTIFIER, 4) == 0x12345678);
+    CHECK(commit(0x12345678) == BOKUHIRA_DONE && field(BOKUHIRA_AT_VERSION, 4) == 0);
+    CHECK(commit(7) == BOKUHIRA_DONE && field(BOKUHIRA_AT_VERSION, 4) == 1);
     CHECK(reads(3, 0x33) && reads(4, 0x44));
 
     /* a lone write, and a change that is aborted */
@@ -154,9 +217,11 @@ int main(void)
 
     /* a checkpoint of one map page and the zone page; a read is never busy */
     CHECK(bokuhira_checkpoint(LENT) == BOKUHIRA_MORE);
+    CHECK(d.state[BOKUHIRA_AT_KIND] == BOKUHIRA_KIND_CHECKPOINT && field(BOKUHIRA_AT_STRIDE, 2) == 1);
+    CHECK(d.state[BOKUHIRA_AT_FRONT] == 0 && d.state[BOKUHIRA_AT_FIRST] == BOKUHIRA_MAP_PAGES(LOGICAL) + 1);
     REFUSED(BOKUHIRA_BUSY, lone(5, 0x77));
     CHECK(reads(5, 0x55));
-    CHECK(bokuhira_checkpoint(LENT) == BOKUHIRA_DONE);
+    CHECK(bokuhira_checkpoint(LENT) == BOKUHIRA_DONE && field(BOKUHIRA_AT_CHECKPOINT, 4) == 2);
 
     /* a power cut before a commit programs its page, within it, and after it */
     CHECK(begin(9) == BOKUHIRA_DONE && put(9, 3, 0x99) == BOKUHIRA_DONE && put(9, 6, 0x96) == BOKUHIRA_DONE);
@@ -191,15 +256,39 @@ int main(void)
     CHECK(i == BOKUHIRA_ZONE_SHORT && n > 0);
     REFUSED(BOKUHIRA_ZONE_SHORT, lone(0, 1));
     CHECK(checkpoint() >= 2);
-    free_blocks = d.state[FREE_COUNT];
-    for (n = 1; (i = bokuhira_reclaim(LENT)) == BOKUHIRA_MORE; n++)
+    free_blocks = d.state[BOKUHIRA_AT_FREE_COUNT];
+    for (n = 0; (i = bokuhira_reclaim(LENT)) == BOKUHIRA_MORE; n++) {
+        CHECK(d.state[BOKUHIRA_AT_KIND] == BOKUHIRA_KIND_RECLAIM);
         REFUSED(BOKUHIRA_BUSY, begin(10));
-    CHECK(i == BOKUHIRA_DONE && d.state[FREE_COUNT] == free_blocks + 1);
+    }
+    CHECK(n > 0 && i == BOKUHIRA_DONE && d.state[BOKUHIRA_AT_FREE_COUNT] == free_blocks + 1);
     CHECK(reads(3, 0x99) && reads(4, 0x44) && reads(5, 0x55) && reads(6, 0x96));
     cut();
     CHECK(recover() == BOKUHIRA_DONE);
     CHECK(reads(3, 0x99) && reads(4, 0x44) && reads(5, 0x55) && reads(6, 0x96));
 
+    /* a change that meets a short zone: a checkpoint keeps its full blocks as unavailable ones, and it goes on */
+    CHECK(begin(11) == BOKUHIRA_DONE);
+    for (n = 0; (i = put(11, 7, (uint8_t)n)) == BOKUHIRA_DONE; n++)
+        ;
+    REFUSED(BOKUHIRA_ZONE_SHORT, commit(11));
+    CHECK(i == BOKUHIRA_ZONE_SHORT && checkpoint() >= 2);
+    CHECK(d.state[BOKUHIRA_AT_UNAVAILABLE_COUNT] > 0);
+    CHECK(d.state[BOKUHIRA_AT_UNAVAILABLE] == field(place + BOKUHIRA_PLACE_PAGES, 2) / PAGES);
+    CHECK(put(11, 7, 0x77) == BOKUHIRA_DONE && commit(11) == BOKUHIRA_DONE && reads(7, 0x77));
+
+    return nothing;
+}
+
+int main(void)
+{
+    pthread_t thread;
+    pthread_attr_t attributes;
+
+    CHECK(pthread_attr_init(&attributes) == 0);
+    CHECK(pthread_attr_setstacksize(&attributes, BOKUHIRA_STACK) == 0);
+    CHECK(pthread_create(&thread, &attributes, session, NULL) == 0);
+    CHECK(pthread_join(thread, NULL) == 0);
     printf("C session: %d checks held\n", held);
     return 0;
 }
