@@ -1,11 +1,35 @@
-//! The proved flash layer for programs in Rust: the ten commands of document 01 over buffers that a `Store` owns.
+//! The proved flash layer for programs in Rust: the ten commands of document 01 (docs/PAPERS.md) over buffers that a
+//! `Store` owns.
 //!
 //! Nothing is required of a caller: any array, map, hold and state of any length may be handed in. A call is carried out, or it is
 //! refused with one of document 01's numbers and every buffer is as it was.
+//!
+//! ```
+//! use bokuhira::{Answer, Geometry, Refusal, Store, DATA};
+//!
+//! fn main() -> Result<(), Refusal> {
+//!     let size = Geometry::new(8, 8, 16);
+//!     let mut store = Store::formatted(size)?;
+//!     // a change of two pages: unseen until its commit
+//!     assert_eq!(store.begin(7), Answer::Done);
+//!     assert_eq!(store.write(7, 3, &[0x33; DATA]), Answer::Done);
+//!     assert_eq!(store.write(7, 4, &[0x44; DATA]), Answer::Done);
+//!     assert_eq!(store.read(3), Err(Refusal(14)));
+//!     assert_eq!(store.commit(7), Answer::Done);
+//!     // a power cut: the array stays, map, hold and state are lost
+//!     let mut dark = Store { array: store.array, ..Store::blank(size) };
+//!     assert_eq!(dark.recover(size), Answer::Done);
+//!     assert_eq!(dark.read(3)?, [0x33; DATA]);
+//!     assert_eq!(dark.read(4)?, [0x44; DATA]);
+//!     Ok(())
+//! }
+//! ```
 
+mod answer;
 mod raw;
 mod state;
 
+pub use answer::{Answer, Refusal};
 pub use state::{Kind, Place, State, Work, Zones};
 
 /// The bytes of a page, of its data, and of its spare area.
@@ -43,64 +67,6 @@ impl Geometry {
     }
 }
 
-/// One refusal, by document 01's number.
-#[derive(Clone, Copy, PartialEq, Eq, Debug)]
-pub struct Refusal(pub u8);
-
-impl Refusal {
-    /// The trade's word for it.
-    pub fn word(self) -> &'static str {
-        const WORDS: [&str; 17] = [
-            "bad frame",
-            "no checkpoint",
-            "bad checkpoint",
-            "bad page",
-            "bad logical page",
-            "bad identifier",
-            "identifier live",
-            "not begun",
-            "places full",
-            "too long",
-            "bad length",
-            "zone short",
-            "versions spent",
-            "never written",
-            "no gain",
-            "reserve short",
-            "busy",
-        ];
-        WORDS.get((self.0 as usize).wrapping_sub(1)).copied().unwrap_or("no refusal of document 01")
-    }
-}
-
-/// What a call answers.
-#[derive(Clone, Copy, PartialEq, Eq, Debug)]
-pub enum Answer {
-    Done,
-    /// One stride of several is done; the same call goes on.
-    More,
-    Refused(Refusal),
-}
-
-impl Answer {
-    /// 0 done, 255 more, else the refusal's number.
-    pub fn number(self) -> u8 {
-        match self {
-            Answer::Done => 0,
-            Answer::More => 255,
-            Answer::Refused(r) => r.0,
-        }
-    }
-
-    fn of(number: u8) -> Answer {
-        match number {
-            0 => Answer::Done,
-            255 => Answer::More,
-            n => Answer::Refused(Refusal(n)),
-        }
-    }
-}
-
 /// A command with its arguments.
 #[derive(Clone, PartialEq, Eq, Debug)]
 pub enum Call {
@@ -134,13 +100,8 @@ impl Store {
     /// A store that was formatted to the end.
     pub fn formatted(g: Geometry) -> Result<Store, Refusal> {
         let mut store = Store::blank(g);
-        loop {
-            match store.format(g) {
-                Answer::More => (),
-                Answer::Done => return Ok(store),
-                Answer::Refused(r) => return Err(r),
-            }
-        }
+        while store.format(g).more()? {}
+        Ok(store)
     }
 
     /// One stride of a format.

@@ -1,5 +1,5 @@
-//! Random sequences of document 01 with cuts at random bits, against its book: after every cut a recovery gives each logical page as the
-//! book has it. Every call also goes to the plain layer, which must answer and leave the same.
+//! Random sequences of document 01 (docs/PAPERS.md) with cuts at random bits, against its book: after every cut a recovery gives each
+//! logical page as the book has it. Every call also goes to the plain layer, which must answer and leave the same.
 mod common;
 
 use bokuhira::{Call, Geometry, State, Store, DATA, PAGE, UNMAPPED};
@@ -258,7 +258,8 @@ impl Run {
 
     fn operates(&self, call: &Call) -> bool {
         let mut after = self.proved.clone();
-        Layer::Proved.call(&mut after, call);
+        // whatever it answers: a refused call leaves the array as it was
+        let _ = Layer::Proved.call(&mut after, call);
         after.array != self.proved.array
     }
 

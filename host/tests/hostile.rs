@@ -3,7 +3,7 @@
 mod common;
 
 use bokuhira::{Call, Geometry, Kind, Place, State, Store, Work, Zones, DATA, HOLD, PAGE, STATE, UNMAPPED};
-use common::{formatted, lost_state, say, spare, whole_page, Layer, Met, Rng, NAMES};
+use common::{formatted, lost_state, say, spare, whole_page, Layer, Met, Rng, LAYERS, NAMES};
 
 /// Worlds and the calls on them, drawn from one seed.
 struct Maker {
@@ -259,7 +259,8 @@ impl Maker {
         for _ in 0..self.below(160) {
             let call = self.call(&world, g);
             if !matches!(call, Call::Format(_)) || self.rng.once_in(30) {
-                Layer::Proved.call(&mut world, &call);
+                // whatever it answers: a refused call leaves the world as it was
+                let _ = Layer::Proved.call(&mut world, &call);
             }
         }
         world
@@ -466,6 +467,40 @@ fn any_input_gives_the_same_on_both_layers() {
     for refusal in 1..=17 {
         assert!(met.in_all(refusal) > 0, "refusal {refusal} was never met");
     }
+}
+
+/// After power-up anything stands in the state's bytes. Recover and format take any of them and give the same, on both layers; the other
+/// eight commands refuse those that encode no state.
+#[test]
+fn any_state_will_do_at_power_up() {
+    let g = Geometry::new(8, 8, 16);
+    let mut rng = Rng::new(13);
+    let mut live = formatted(g);
+    assert_eq!(Layer::Proved.call(&mut live, &Call::Lone { lpn: 3, data: vec![7; DATA] }), 0);
+    let mut recovered = live.clone();
+    assert_eq!(Layer::Proved.call(&mut recovered, &Call::Recover(g)), 0);
+    let mut strange = 0;
+    for _ in 0..500 {
+        let state = rng.bytes(STATE);
+        let dark = Store { state, map: vec![rng.next() as u16; 16], ..live.clone() };
+        strange += State::decode(&dark.state).is_none() as usize;
+        let mut maker = Maker::new(rng.next());
+        for layer in LAYERS {
+            let mut w = dark.clone();
+            assert_eq!(layer.call(&mut w, &Call::Recover(g)), 0);
+            assert!(w == recovered, "{layer:?}: a recover that hangs on the state: {}", told(&dark));
+            let mut w = dark.clone();
+            assert_eq!(layer.call(&mut w, &Call::Format(g)), 255);
+            assert_eq!(State::decode(&w.state).map(|s| s.work), Some(Work { kind: Kind::Format, stride: 1 }), "{layer:?}: a format's first stride");
+            for kind in (2..10).filter(|_| State::decode(&dark.state).is_none()) {
+                let call = maker.call_of(&dark, g, kind);
+                let mut w = dark.clone();
+                assert_eq!(layer.call(&mut w, &call), 1, "{layer:?}: {call:?} on bytes that encode no state");
+                assert!(w == dark, "{layer:?}: {call:?} was refused and changed something");
+            }
+        }
+    }
+    assert!(strange > 400, "{strange} of 500 encode no state");
 }
 
 /// What a message tells of a world.

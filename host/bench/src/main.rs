@@ -1,5 +1,5 @@
 //! Benchmarks: the proved layer beside the plain Rust one, in one run on the same arrays. Each time is the least of several rounds taken in
-//! turn. The exit status is 1 where a goal is missed.
+//! turn. What is missed is said once, at the end. Layers that leave different stores end the run with an error.
 
 #[allow(dead_code)] // the tests read through it too
 #[path = "../../tests/common/layer.rs"]
@@ -21,7 +21,7 @@ const HELP: &str = "bench: the proved layer beside plain Rust, as tables of rati
 
   bench [pages | commands | recover | wear | stack]...     some of the tables; all where none is named
 
-Rounds are taken in turn and the least time counts. The exit status is 1 where a goal is missed.";
+Rounds are taken in turn and the least time counts. What is missed is said at the end; the exit status is 0 once all is measured.";
 
 /// What two readings of the clock take.
 fn clock() -> f64 {
@@ -30,6 +30,7 @@ fn clock() -> f64 {
 
 fn commands(table: &mut Table) {
     let clock = clock();
+    let (mut lowest, mut highest) = (f64::MAX, f64::MIN);
     for (g, turns) in GEOMETRIES.into_iter().zip([2000, 1200, 1200]) {
         let mut least = [[f64::MAX; 8]; 2];
         let mut calls = [0; 8];
@@ -45,12 +46,15 @@ fn commands(table: &mut Table) {
             }
             assert!(left[0] == left[1], "round {round}: the two layers left different stores");
         }
-        table.head(&format!("a call, {}", name(g)));
+        table.head(&format!("a call, {}", name(g)), None);
         for c in 0..8 {
             assert!(calls[c] > 0, "no {} in the session", COMMANDS[c]);
-            table.line(COMMANDS[c], least[0][c], least[1][c], 1.0);
+            let ratio = table.line(COMMANDS[c], least[0][c], least[1][c]);
+            (lowest, highest) = (lowest.min(ratio), highest.max(ratio));
         }
     }
+    let why = "the state is decoded, handed on by value and encoded again";
+    table.hold(table::meets(highest, 1.0), &format!("calls take {lowest:.2} to {highest:.2} times the time of plain Rust, goal 1.0: {why}"));
 }
 
 fn rescan(s: &mut Store, g: Geometry) -> u8 {
@@ -96,10 +100,12 @@ fn recover(table: &mut Table) {
             lines.push((what, recovery(g, &s, if g.blocks > 8 { 41 } else { 401 })));
         }
     }
-    table.head("recover, beside the plain layer");
-    lines.iter().for_each(|(what, [proved, plain, _])| table.line(what, *proved, *plain, 1.2));
-    table.head("recover, beside a program that rescans");
-    lines.iter().for_each(|(what, [proved, _, rescan])| table.line(what, *proved, *rescan, 1.2));
+    for (beside, other) in [("the plain layer", 1), ("a program that rescans", 2)] {
+        table.head(&format!("recover, beside {beside}"), Some(1.2));
+        for (what, times) in &lines {
+            table.line(what, times[0], times[other]);
+        }
+    }
     let g = GEOMETRIES[2];
     println!("\n| {}: pages scanned | proved | ns a page |\n|---|---|---|", name(g));
     for blocks in [3, 16, 32, 64, 96, 126] {
@@ -123,7 +129,7 @@ fn stack(table: &mut Table) {
     let full = session::listed(g, g.blocks as usize - 2);
     let (_, used) = session::run(Layer::Proved, g, 1200, 7, 0.0);
     let mut room = used.clone();
-    while room.checkpoint() == Answer::More {}
+    while room.checkpoint().more().expect("a checkpoint") {}
     assert_eq!(room.begin(0xABCDEF), Answer::Done);
     let data = vec![3; 512];
     assert_eq!(room.write(0xABCDEF, 1, &data), Answer::Done);
@@ -154,7 +160,7 @@ fn stack(table: &mut Table) {
             }
         }
         println!("| {what} | {deepest} |");
-        table.hold(&format!("stack of {what}"), deepest <= 64 * 1024);
+        table.hold(deepest <= 64 * 1024, &format!("{what} uses {deepest} bytes of stack, limit 65536"));
     }
 }
 
@@ -172,7 +178,7 @@ fn main() {
     let wanted = |what: &str| words.is_empty() || words.iter().any(|w| w == what);
     let mut table = Table::default();
     if wanted("pages") {
-        table.head("a page");
+        table.head("a page", Some(1.0));
         pages::run(&mut table);
     }
     if wanted("commands") {
@@ -187,5 +193,5 @@ fn main() {
     if wanted("stack") {
         stack(&mut table);
     }
-    std::process::exit(!table.finish() as i32);
+    table.finish();
 }

@@ -122,7 +122,8 @@ pub fn run(layer: Layer, g: Geometry, turns: u32, seed: u64, clock: f64) -> (Tal
                 }
             }
             _ => {
-                s.call(&Call::Read(lpn(&mut random)));
+                let answer = s.call(&Call::Read(lpn(&mut random)));
+                assert!(answer == 0 || answer == 14, "a read answered {answer}");
             }
         }
     }
@@ -151,7 +152,7 @@ pub fn listed(g: Geometry, blocks: usize) -> Store {
                 if z.available.len() + z.unavailable.len() >= blocks || z.free.is_empty() {
                     return s;
                 }
-                while s.checkpoint() == Answer::More {}
+                while s.checkpoint().more().expect("a checkpoint") {}
             }
             other => panic!("{answer:?} {other} in turn {turn}"),
         }

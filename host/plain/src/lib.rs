@@ -1,7 +1,8 @@
-//! The flash layer of document 01 in plain Rust, written from the papers and apart from the proved one.
+//! The flash layer of document 01 (docs/PAPERS.md) in plain Rust, written from the papers and apart from the proved one.
 //!
 //! Ten functions over lent buffers: the array, the map, the hold and the 2,366 bytes of a state. Each answers 0 for done, 255 for more,
-//! else the number of a refusal, which leaves every buffer as it was. Any bytes of any length may be lent.
+//! else the number of a refusal, which leaves every buffer as it was. Any bytes of any length may be lent. Format and recover take any 2,366
+//! bytes for the state; to the others, bytes that encode none are a bad frame.
 
 mod change;
 mod checkpoint;
@@ -81,17 +82,17 @@ fn ensure(holds: bool, refusal: Refusal) -> Result<(), Refusal> {
 
 /// One stride of a format to B blocks of P pages with L logical pages.
 pub fn format(array: &mut [u8], map: &mut [u16], hold: &[u8], state: &mut [u8], blocks: u16, pages: u16, logical: u16) -> u8 {
-    number(State::edit(state).and_then(|s| format::format(array, map, hold, s, flash::Geometry::new(blocks, pages, logical))))
+    number(State::any(state).and_then(|s| format::format(array, map, hold, s, flash::Geometry::new(blocks, pages, logical))))
 }
 
 /// Makes map and state from what stands on the array.
 pub fn recover(array: &[u8], map: &mut [u16], hold: &[u8], state: &mut [u8], blocks: u16, pages: u16, logical: u16) -> u8 {
-    number(State::edit(state).and_then(|s| recover::recover::<recover::Log>(array, map, hold, s, flash::Geometry::new(blocks, pages, logical))))
+    number(State::any(state).and_then(|s| recover::recover::<recover::Log>(array, map, hold, s, flash::Geometry::new(blocks, pages, logical))))
 }
 
 /// The same by a program that keeps no list of what it scanned, and rescans.
 pub fn rescan(array: &[u8], map: &mut [u16], hold: &[u8], state: &mut [u8], blocks: u16, pages: u16, logical: u16) -> u8 {
-    number(State::edit(state).and_then(|s| recover::recover::<recover::Rescan>(array, map, hold, s, flash::Geometry::new(blocks, pages, logical))))
+    number(State::any(state).and_then(|s| recover::recover::<recover::Rescan>(array, map, hold, s, flash::Geometry::new(blocks, pages, logical))))
 }
 
 /// Opens a transaction in the lowest free place.

@@ -13,7 +13,7 @@
 //! | 278 | 8 × 261 | places: TxID (4), count (1), 64 logical and 64 physical page numbers (2 each) |
 use crate::flash::Geometry;
 use crate::zones::Zones;
-use crate::{Refusal, LONGEST, PLACES, STATE};
+use crate::{ensure, Refusal, LONGEST, PLACES, STATE};
 use std::ops::{Deref, DerefMut};
 
 type Bytes = [u8; STATE];
@@ -40,7 +40,7 @@ pub enum Work {
     Reclaim,
 }
 
-/// Bytes that are a state; they may still be out of range.
+/// Bytes that are a state, which may still be out of range; in a format or a recover, any bytes.
 pub struct State<B>(B);
 
 impl<'a> State<&'a Bytes> {
@@ -52,8 +52,14 @@ impl<'a> State<&'a Bytes> {
 
 impl<'a> State<&'a mut Bytes> {
     pub fn edit(bytes: &'a mut [u8]) -> Result<State<&'a mut Bytes>, Refusal> {
-        let bytes: &mut Bytes = bytes.try_into().map_err(|_| Refusal::BadFrame)?;
-        work_in(bytes).map(|_| State(bytes)).ok_or(Refusal::BadFrame)
+        let state = State::any(bytes)?;
+        ensure(work_in(state.0).is_some(), Refusal::BadFrame)?;
+        Ok(state)
+    }
+
+    /// For format and recover: any bytes of the right number.
+    pub fn any(bytes: &'a mut [u8]) -> Result<State<&'a mut Bytes>, Refusal> {
+        bytes.try_into().map(State).map_err(|_| Refusal::BadFrame)
     }
 }
 
@@ -150,8 +156,9 @@ impl<B: Deref<Target = Bytes>> State<B> {
         self.0[FIRST].into()
     }
 
+    /// Where the bytes encode no state there is none.
     pub fn work(&self) -> Work {
-        work_in(&self.0).expect("the bytes are a state")
+        work_in(&self.0).unwrap_or(Work::Idle)
     }
 
     pub fn place(&self, i: usize) -> Place<'_> {

@@ -12,6 +12,7 @@ pub const LAYERS: [Layer; 2] = [Layer::Proved, Layer::Plain];
 
 impl Layer {
     /// Carries a call out and gives its number: 0 done, 255 more, else the refusal.
+    #[must_use = "a refused call changed nothing"]
     pub fn call(self, store: &mut Store, call: &Call) -> u8 {
         match self {
             Layer::Proved => store.call(call).number(),

@@ -107,12 +107,15 @@ pub fn due_bits(before: &[u8], after: &[u8]) -> Vec<(usize, u8)> {
     due
 }
 
-/// Bytes that are a state but for their ranges, as a cut may leave them: any bytes with a kind of work and a stride number that fits it.
+/// A state's bytes as a cut may leave them: any. Few of these encode a state; every second time they are made to, so that the work under
+/// way that they tell of is met too.
 pub fn lost_state(rng: &mut Rng) -> Vec<u8> {
     let mut state = rng.bytes(bokuhira::STATE);
-    state[275] = rng.below(4) as u8;
-    if state[275] % 3 == 0 {
-        state[276..278].fill(0);
+    if rng.once_in(2) {
+        state[275] = rng.below(4) as u8;
+        if state[275] % 3 == 0 {
+            state[276..278].fill(0);
+        }
     }
     state
 }
