@@ -1,4 +1,4 @@
-//! The book of document 01: what must be read, from the calls' arguments and answers and from the cuts alone.
+//! The book of document 01 (docs/PAPERS.md): what must be read, from the calls' arguments and answers and from the cuts alone.
 use bokuhira::{Answer, Call};
 
 #[derive(Clone, PartialEq, Eq, Debug)]

@@ -6,142 +6,43 @@ use crate::{
     view::Zone,
     world::World,
 };
-use bokuhira::Geometry;
+use layout::{fill, short_words, width_of, Form, Head, Layout};
+use std::collections::HashSet;
+
+mod layout;
 
 const STYLE: &str = include_str!("lab.css");
 const PAGE_STYLE: &str = include_str!("page.css");
 const PAGE_SCRIPT: &str = include_str!("page.js");
 
 const CONTROLS: &str = "\
-<input type=\"range\" id=\"slider\" min=\"0\" value=\"0\" aria-label=\"step\"><span id=\"count\"></span>
+<span id=\"count\"></span><input type=\"range\" id=\"slider\" min=\"0\" value=\"0\" aria-label=\"step\">
 <button id=\"first\" title=\"first step (Home)\">|◀</button><button id=\"back\" title=\"one step back (left arrow)\">◀</button>
 <button id=\"on\" title=\"one step on (right arrow)\">▶</button><button id=\"last\" title=\"last step (End)\">▶|</button><button id=\"play\">play</button>
-<button id=\"smaller\" title=\"smaller\">−</button><button id=\"fit\">fit</button><button id=\"larger\" title=\"larger\">+</button>";
+<button id=\"smaller\" title=\"smaller (-)\">−</button><button id=\"fit\" title=\"the whole flash (0)\">fit</button><button id=\"larger\" title=\"larger (+)\">+</button>
+<button id=\"list\" title=\"show or hide the list of steps (S)\">steps</button><button id=\"key\" title=\"show or hide the legend (L)\">legend</button>";
 const CAPTION: &str = "\
-<div id=\"caption\"><span id=\"text\"></span><span id=\"said\"></span><div id=\"state\"></div></div>
-<div id=\"tell\">Point at a page to read it; click to keep it and to mark the pages of its change.</div>";
-
-/// How much a cell has room for.
-#[derive(Clone, Copy, PartialEq, Eq)]
-enum Detail {
-    TwoLines,
-    OneLine,
-    Short,
-    Letter,
-}
-
-/// The measures of a picture.
-struct Layout {
-    geometry: Geometry,
-    detail: Detail,
-    cell: (f64, f64),
-    column: f64,
-    left: f64,
-    top: f64,
-}
-
-impl Layout {
-    fn of(geometry: Geometry) -> Layout {
-        let detail = match (geometry.blocks, geometry.pages) {
-            (..=20, ..=16) => Detail::TwoLines,
-            (..=20, _) => Detail::OneLine,
-            (..=40, _) => Detail::Short,
-            _ => Detail::Letter,
-        };
-        let (cell, gap, left, top) = match detail {
-            Detail::TwoLines => ((106.0, 34.0), 8.0, 40.0, 66.0),
-            Detail::OneLine => ((106.0, 18.0), 8.0, 40.0, 66.0),
-            Detail::Short => ((46.0, 20.0), 4.0, 40.0, 66.0),
-            Detail::Letter => ((21.0, 21.0), 3.0, 40.0, 80.0),
-        };
-        Layout { geometry, detail, cell, column: cell.0 + gap, left, top }
-    }
-
-    /// Whether columns are too narrow for the words of their zones.
-    fn short(&self) -> bool {
-        matches!(self.detail, Detail::Short | Detail::Letter)
-    }
-
-    fn blocks(&self) -> usize {
-        self.geometry.blocks as usize
-    }
-
-    fn pages(&self) -> usize {
-        self.geometry.pages as usize
-    }
-
-    fn width(&self) -> f64 {
-        (self.left + self.blocks() as f64 * self.column + 10.0).max(900.0)
-    }
-
-    /// Where the cells end.
-    fn bottom(&self) -> f64 {
-        self.top + self.pages() as f64 * self.cell.1
-    }
-
-    /// The legend keeps its size on the sheet, however wide the picture is.
-    fn legend_scale(&self) -> f64 {
-        self.width() / 1100.0
-    }
-
-    fn height(&self) -> f64 {
-        self.bottom() + 14.0 + self.legend_scale() * LEGEND_HEIGHT
-    }
-
-    fn at(&self, k: usize) -> (f64, f64) {
-        (self.left + (k / self.pages()) as f64 * self.column, self.top + (k % self.pages()) as f64 * self.cell.1)
-    }
-
-    /// One cell with its fields open, in braces; the page fills them in as this program does.
-    fn cell_markup(&self) -> String {
-        let (w, h) = self.cell;
-        let text = match self.detail {
-            Detail::TwoLines => "<text class=\"l\" x=\"5\" y=\"23\" font-size=\"16\">{letter}</text>\
-                <text x=\"24\" y=\"14\" font-size=\"12\">{one}</text><text x=\"24\" y=\"29\" font-size=\"11.5\">{two}</text>"
-                .into(),
-            Detail::OneLine => {
-                "<text class=\"l\" x=\"4\" y=\"14\" font-size=\"13\">{letter}</text><text x=\"19\" y=\"13\" font-size=\"9.5\">{one} {two}</text>"
-                    .into()
-            }
-            Detail::Short => {
-                "<text class=\"l\" x=\"4\" y=\"15\" font-size=\"13\">{letter}</text><text x=\"18\" y=\"14\" font-size=\"10.5\">{nr}</text>".into()
-            }
-            Detail::Letter => format!("<text class=\"l\" x=\"{}\" y=\"16\" font-size=\"15\" text-anchor=\"middle\">{{letter}}</text>", w / 2.0),
-        };
-        format!(
-            "<g class=\"cell {{css}}\" id=\"p{{k}}\" transform=\"translate({{x}},{{y}})\"><title>{{tell}}</title>\
-             <rect class=\"r\" width=\"{w}\" height=\"{h}\"/><use href=\"#e{{edges}}\"/>{text}</g>"
-        )
-    }
-}
-
-const LEGEND_HEIGHT: f64 = 150.0;
+<div id=\"caption\"><span id=\"text\"></span><span id=\"said\"></span></div><div id=\"state\"></div>
+<div id=\"tell\">Point at a page to read it; click to keep it and to mark the pages of its change. Keys: ← → Home End for steps, S list of steps, L legend, + − 0 size.</div>";
 
 /// Text inside markup.
 fn escaped(text: &str) -> String {
     text.replace('&', "&amp;").replace('<', "&lt;").replace('>', "&gt;").replace('"', "&quot;")
 }
 
-fn fill(template: &str, fields: &[(&str, &str)]) -> String {
-    fields.iter().fold(template.to_string(), |t, (name, value)| t.replace(&format!("{{{name}}}"), value))
-}
-
-fn cell(layout: &Layout, template: &str, k: usize, cell: Cell, words: &Words) -> String {
+/// A page in its place. What it tells may hold anything, so that field is filled last.
+fn cell(layout: &Layout, form: &Form, template: &str, k: usize, cell: Cell, words: &Words) -> String {
     let (x, y) = layout.at(k);
     let kind = &KINDS[cell.kind as usize];
-    let tell = format!("page {k} (block {}, page {}): {} - {}", k / layout.pages(), k % layout.pages(), words.tell, kind.words);
-    let fields = [
-        ("css", kind.css),
-        ("letter", kind.letter),
-        ("x", &x.to_string()),
-        ("y", &y.to_string()),
-        ("k", &k.to_string()),
-        ("edges", &cell.edges.to_string()),
-        ("nr", &escaped(words.number())),
-        ("one", &escaped(&words.one)),
-        ("two", &escaped(&words.two)),
-        ("tell", &escaped(&tell)),
-    ];
+    let name = format!("page {k} (block {}, page {})", k / layout.pages(), k % layout.pages());
+    let tell = escaped(&format!("{name}: {} - {}", words.tell, kind.words));
+    let sizes: Vec<String> = layout.sizes(form, words).iter().map(f64::to_string).collect();
+    let numbers = [x.to_string(), y.to_string(), k.to_string(), (cell.edges >> 2).to_string(), (cell.edges & 3).to_string()];
+    let mut fields = vec![("css", kind.css), ("letter", kind.letter)];
+    fields.extend(["x", "y", "k", "line", "sides"].into_iter().zip(numbers.iter().map(String::as_str)));
+    fields.extend(["s0", "s1", "s2", "s3"].into_iter().zip(sizes.iter().map(String::as_str)));
+    fields.extend(short_words(words));
+    fields.push(("tell", &tell));
     fill(template, &fields)
 }
 
@@ -157,18 +58,16 @@ fn pattern(id: &str, (w, h): (u8, u8), turned: u8, ground: &str, drawn: &str) ->
 fn definitions(layout: &Layout) -> String {
     let (w, h) = layout.cell;
     let mut text = format!("<defs><pattern id=\"grid\" width=\"{w}\" height=\"{h}\" patternUnits=\"userSpaceOnUse\" y=\"{}\">", layout.top);
-    text += &format!("<path d=\"M0 {h}H{w}\" stroke=\"#bbb\" stroke-width=\".6\"/></pattern><g id=\"e0\"/>");
+    text += &format!("<path d=\"M0 {h}H{w}\" stroke=\"#bbb\" stroke-width=\".6\"/></pattern>");
     text += &pattern("pa", (8, 8), 45, "#dcebff", "<rect width=\"3\" height=\"8\" fill=\"#5b93e0\"/>");
     text += &pattern("px", (7, 7), 0, "#fff0e0", "<path d=\"M0 0L7 7M7 0L0 7\" stroke=\"#d9741a\" stroke-width=\"1.1\"/>");
     text += &pattern("pt", (8, 6), 0, "#fff", "<path d=\"M0 5L4 1L8 5\" stroke=\"#d03030\" stroke-width=\"1.1\" fill=\"none\"/>");
     text += &pattern("pp", (6, 6), 0, "#fff", "<rect width=\"6\" height=\"2.4\" fill=\"#b493dd\"/>");
     text += &pattern("pu", (6, 6), 45, "#fff", "<rect width=\"3\" height=\"6\" fill=\"#f0c050\"/>");
-    for line in 1..4 {
-        for edges in 0..4 {
-            let upper = if edges & 1 == 1 { format!("M0 0H{w}") } else { String::new() };
-            let lower = if edges & 2 == 2 { format!("M0 {h}H{w}") } else { String::new() };
-            text += &format!("<path id=\"e{}\" class=\"edge e{line}\" d=\"M0 0V{h}M{w} 0V{h}{upper}{lower}\"/>", line << 2 | edges);
-        }
+    for sides in 0..4 {
+        let upper = if sides & 1 == 1 { format!("M0 0H{w}") } else { String::new() };
+        let lower = if sides & 2 == 2 { format!("M0 {h}H{w}") } else { String::new() };
+        text += &format!("<path id=\"s{sides}\" d=\"M0 0V{h}M{w} 0V{h}{upper}{lower}\"/>");
     }
     text + "</defs>"
 }
@@ -177,89 +76,75 @@ fn definitions(layout: &Layout) -> String {
 fn column(layout: &Layout, b: usize, css: &str, words: &str) -> String {
     let ((w, _), middle) = (layout.cell, layout.cell.0 / 2.0);
     let x = layout.left + b as f64 * layout.column;
-    let (head, height, name, size) = match layout.detail {
-        Detail::Letter => (layout.top - 34.0, 32.0, b.to_string(), 10),
-        Detail::Short => (layout.top - 40.0, 37.0, b.to_string(), 13),
-        _ => (layout.top - 40.0, 37.0, format!("block {b}"), 13),
+    let (height, head) = (layout.head_height, layout.top - layout.head_height - 2.0);
+    let (name, size, small) = match layout.head {
+        Head::Block => (format!("block {b}"), 17, 16),
+        Head::Words => (b.to_string(), 26, 16),
+        Head::Letters => (b.to_string(), 19, 18),
+        Head::Narrow => (b.to_string(), 10, 12),
     };
-    let (upper, lower) = (head + 0.4 * height, head + 0.84 * height);
+    let (upper, lower) = (head + 0.42 * height, head + 0.88 * height);
     let body = format!("y=\"{}\" width=\"{w}\" height=\"{}\"", layout.top, layout.bottom() - layout.top);
     format!(
         "<g id=\"b{b}\" class=\"block {css}\" transform=\"translate({x},0)\"><rect class=\"head\" y=\"{head}\" width=\"{w}\" height=\"{height}\"/>\
-         <text class=\"nr\" x=\"{middle}\" y=\"{upper}\" font-size=\"{size}\">{name}</text><text class=\"zone\" x=\"{middle}\" y=\"{lower}\" font-size=\"12\">{words}</text>\
+         <text class=\"nr\" x=\"{middle}\" y=\"{upper}\" font-size=\"{size}\">{name}</text><text class=\"zone\" x=\"{middle}\" y=\"{lower}\" font-size=\"{small}\">{words}</text>\
          <rect class=\"bg\" {body}/><rect class=\"grid\" {body}/></g>\n"
     )
 }
 
-/// Numbers beside the rows and, where columns are narrow, above every eighth.
+/// Numbers beside the rows, or every eighth where they are low; where columns are narrow, also above every eighth.
 fn ticks(layout: &Layout) -> String {
     let mut text = String::new();
-    let narrow = layout.detail == Detail::Letter;
-    let (step, size) = if narrow { (8, 20.0) } else { (1, 11.0) };
+    let narrow = layout.head == Head::Narrow;
+    let step = if layout.low() { 8 } else { 1 };
+    let size = if narrow { 26.0 } else { 17.0 };
     for q in (0..layout.pages()).step_by(step) {
-        let y = layout.top + q as f64 * layout.cell.1 + if narrow { 17.0 } else { layout.cell.1 / 2.0 + 4.0 };
+        let y = layout.top + (q as f64 + 0.5) * layout.cell.1 + 0.36 * size;
         text += &format!("<text class=\"tick\" x=\"{}\" y=\"{y}\" font-size=\"{size}\" text-anchor=\"end\">{q}</text>", layout.left - 6.0);
     }
     if narrow {
         for b in (0..layout.blocks()).step_by(8) {
             let x = layout.left + b as f64 * layout.column;
-            text += &format!("<text class=\"tick\" x=\"{x}\" y=\"22\" font-size=\"22\">{b}</text>");
+            text += &format!("<text class=\"tick\" x=\"{x}\" y=\"26\" font-size=\"28\">{b}</text>");
         }
     }
     text
 }
 
-/// The legend: a sample of each kind, the zones, and the lines.
-fn legend(layout: &Layout) -> String {
-    let scale = layout.legend_scale();
-    let mut text = format!("<g class=\"legend\" transform=\"translate(0,{}) scale({scale})\">", layout.bottom() + 14.0);
-    let (columns, pitch) = (4, 270.0);
-    let mut spot = 0;
-    let mut put = |sample: &str, words: &str| {
-        let (x, y) = (12.0 + (spot % columns) as f64 * pitch, 6.0 + (spot / columns) as f64 * 20.0);
-        text += &format!("<g transform=\"translate({x},{y})\">{sample}<text x=\"34\" y=\"12\" font-size=\"11\">{words}</text></g>");
-        spot += 1;
-    };
-    let sample = |css: &str, letter: &str| {
-        format!("<g class=\"cell {css}\"><rect class=\"r\" width=\"28\" height=\"16\"/><text class=\"l\" x=\"14\" y=\"13\" font-size=\"12\" text-anchor=\"middle\">{letter}</text></g>")
-    };
-    for kind in [2, 3, 4, 5, 1, 6, 7, 8].map(|i: usize| &KINDS[i]) {
-        put(&sample(kind.css, kind.letter), kind.words);
+/// The legend, each with a sample of 28 by 16: the kinds that there are in these steps, the zones, and the lines.
+fn legend(layout: &Layout, history: &History) -> Vec<(String, String)> {
+    let mut items = Vec::new();
+    let mut put = |sample: String, words: &str| items.push((sample, words.to_string()));
+    let used: HashSet<u8> = history.steps.iter().flat_map(|s| &s.runs).map(|r| r.cell.kind).collect();
+    for kind in (1..KINDS.len()).filter(|i| used.contains(&(*i as u8))).map(|i| &KINDS[i]) {
+        let letter = format!("<text class=\"l\" x=\"14\" y=\"13\" font-size=\"12\" text-anchor=\"middle\">{}</text>", kind.letter);
+        put(format!("<g class=\"cell {}\"><rect class=\"r\" width=\"28\" height=\"16\"/>{letter}</g>", kind.css), kind.words);
     }
-    put(&sample("n", "M"), "M map, Z zone of the newest checkpoint");
-    put(&sample("o", "M"), "M map, Z zone of an older checkpoint");
-    put(&sample("p", "M"), "M map, Z zone: checkpoint not complete");
-    put("<rect width=\"28\" height=\"16\" fill=\"#fff\" stroke=\"#bbb\"/>", "erased");
+    put("<rect width=\"28\" height=\"16\" fill=\"#fff\" stroke=\"#bbb\"/>".into(), KINDS[ERASED as usize].words);
     for zone in Zone::ALL.into_iter().filter(|z| *z != Zone::Unknown) {
-        let (css, code) = zone_css(zone);
-        let code = if layout.short() { code } else { "" };
-        let head = format!("<rect class=\"head\" width=\"28\" height=\"16\"/><text x=\"14\" y=\"12\" font-size=\"11\">{code}</text>");
-        put(&format!("<g class=\"block {css}\">{head}</g>"), &format!("block: {}", zone.word()));
+        let (css, letters) = zone_css(zone);
+        let letters = if layout.short() { letters } else { "" };
+        let head = format!("<rect class=\"head\" width=\"28\" height=\"16\"/><text x=\"14\" y=\"12\" font-size=\"11\">{letters}</text>");
+        put(format!("<g class=\"block {css}\">{head}</g>"), &format!("block: {}", zone.word()));
     }
-    put("<path class=\"edge e2\" d=\"M2 1H26V15H2Z\"/>", "pages of one change or checkpoint");
-    put("<path class=\"edge e3\" d=\"M2 1H26V15H2Z\"/>", "pages of an open change");
-    put("<rect class=\"next\" x=\"1\" y=\"1\" width=\"26\" height=\"14\"/>", "page to be programmed next");
-    put("<path class=\"pointer\" d=\"M7 2H21L14 14Z\"/>", "pointer: free blocks are taken from here");
-    put("<text x=\"14\" y=\"13\" font-size=\"12\" text-anchor=\"middle\">▲3</text>", "mark: its change has 3 pages; v: version");
-    text + "</g>"
+    put("<path class=\"edge e2\" d=\"M2 1H26V15H2Z\"/>".into(), "pages of one change or checkpoint");
+    put("<path class=\"edge e3\" d=\"M2 1H26V15H2Z\"/>".into(), "pages of an open change");
+    put("<rect class=\"next\" x=\"1\" y=\"1\" width=\"26\" height=\"14\"/>".into(), "page to be programmed next");
+    put("<path class=\"pointer\" d=\"M7 2H21L14 14Z\"/>".into(), "pointer: free blocks are taken from here");
+    put("<text x=\"14\" y=\"13\" font-size=\"12\" text-anchor=\"middle\">▲3</text>".into(), "mark: its change has 3 pages; v: version");
+    items
 }
 
-/// A whole picture; `id`s let a page change it.
-fn picture(layout: &Layout, title: &str, zones: &[(&str, String)], cells: &str, next: Option<usize>, pointer: u8) -> String {
+/// The flash itself; `id`s let a page change it.
+fn flash(layout: &Layout, zones: &[(&str, String)], cells: &str, next: Option<usize>, pointer: u8) -> String {
     let (w, h) = layout.cell;
-    let (width, height) = (layout.width(), layout.height());
-    let above = if title.is_empty() { 0.0 } else { 24.0 * layout.legend_scale() };
-    let box_size = format!("y=\"{}\" width=\"{width}\" height=\"{}\"", -above, height + above);
-    let narrow = if layout.detail == Detail::Letter { "narrow" } else { "" };
-    let mut text = format!("<svg xmlns=\"http://www.w3.org/2000/svg\" class=\"{narrow}\" viewBox=\"0 {} {width} {}\">\n", -above, height + above);
-    text += &format!("<style>{STYLE}</style>\n");
+    let mut text = format!("<style>{STYLE}</style>\n");
     text += &definitions(layout);
-    text += &format!("<rect {box_size} fill=\"#fff\"/><text x=\"12\" y=\"{}\" font-size=\"{}\">{}</text>", -above / 3.0, above / 1.8, escaped(title));
     for (b, (css, words)) in zones.iter().enumerate() {
         text += &column(layout, b, css, words);
     }
     text += &ticks(layout);
-    let (middle, tip) = (w / 2.0, if layout.detail == Detail::Letter { layout.top - 36.0 } else { layout.top - 42.0 });
+    let (middle, tip) = (w / 2.0, layout.top - layout.head_height - 4.0);
     let shape = format!("M{} {}H{}L{middle} {tip}Z", middle - 6.0, tip - 12.0, middle + 6.0);
     text += &format!(
         "<path id=\"pointer\" class=\"pointer\" d=\"{shape}\" transform=\"translate({},0)\"/>",
@@ -268,12 +153,36 @@ fn picture(layout: &Layout, title: &str, zones: &[(&str, String)], cells: &str, 
     text += &format!("<g id=\"cells\">{cells}</g>\n");
     let (x, y) = next.map_or((0.0, 0.0), |k| layout.at(k));
     let hidden = if next.is_some() { "" } else { " style=\"display:none\"" };
-    text += &format!(
+    text + &format!(
         "<rect id=\"next\" class=\"next\" x=\"1\" y=\"1\" width=\"{}\" height=\"{}\" transform=\"translate({x},{y})\"{hidden}/>",
         w - 2.0,
         h - 2.0
-    );
-    text + &legend(layout) + "</svg>\n"
+    )
+}
+
+/// A picture of this width, from `above` its zero to `height`, with cells of this form.
+fn picture(layout: &Layout, form: usize, (width, above, height): (f64, f64, f64), drawn: &str) -> String {
+    let low = if layout.low() { "low" } else { "" };
+    let size = format!("0 {} {width} {}", -above, height + above);
+    format!("<svg xmlns=\"http://www.w3.org/2000/svg\" id=\"flash\" class=\"{low} f{form}\" viewBox=\"{size}\">\n{drawn}</svg>\n")
+}
+
+/// The flash on a sheet: a line above it and the legend's items below, both of one size on the sheet however wide the flash is.
+fn sheet(layout: &Layout, form: usize, line: &str, flash: &str, items: &[(String, String)]) -> String {
+    let width = layout.width().max(900.0);
+    let scale = width / 1100.0;
+    let (columns, pitch, above) = (3, 360.0, 24.0 * scale);
+    let height = layout.bottom() + scale * (30.0 + 20.0 * items.len().div_ceil(columns) as f64);
+    let size = (above / 1.8).min((width - 24.0) / width_of(line));
+    let mut text = format!("<rect y=\"{}\" width=\"{width}\" height=\"{}\" fill=\"#fff\"/>", -above, height + above);
+    text += &format!("<text x=\"12\" y=\"{}\" font-size=\"{size:.1}\">{}</text>{flash}", -above / 3.0, escaped(line));
+    text += &format!("<g transform=\"translate(0,{}) scale({scale})\">", layout.bottom() + 14.0);
+    for (spot, (sample, words)) in items.iter().enumerate() {
+        let (x, y) = (12.0 + (spot % columns) as f64 * pitch, 6.0 + (spot / columns) as f64 * 20.0);
+        let size = 12f64.min((pitch - 40.0) / width_of(words));
+        text += &format!("<g transform=\"translate({x},{y})\">{sample}<text x=\"34\" y=\"12\" font-size=\"{size:.1}\">{words}</text></g>");
+    }
+    picture(layout, form, (width, above, height), &(text + "</g>"))
 }
 
 /// The world as it stands, in one SVG.
@@ -282,17 +191,20 @@ pub fn svg(world: &World) -> String {
     let mut history = History::default();
     history.record(world, "", "");
     let step = &history.steps[0];
-    let template = layout.cell_markup();
+    let forms = layout.forms();
+    let paper = layout.on_paper(&forms);
+    let template = layout.cell_markup(&forms[paper]);
     let mut cells = String::new();
     for run in step.runs.iter().filter(|r| r.cell.kind != ERASED) {
         for k in run.first..run.first + run.pages {
-            cells += &cell(&layout, &template, k, run.cell, &history.words[run.cell.words as usize]);
+            cells += &cell(&layout, &forms[paper], &template, k, run.cell, &history.words[run.cell.words as usize]);
         }
     }
     let view = world.view();
     let words = |b: usize, words: &str| if layout.short() { zone_css(view.zones[b]).1.into() } else { words.to_string() };
     let zones: Vec<(&str, String)> = step.zones.iter().map(|(b, css, text)| (*css, words(*b, text))).collect();
-    picture(&layout, &state_line(world), &zones, &cells, step.next, step.pointer)
+    let flash = flash(&layout, &zones, &cells, step.next, step.pointer);
+    sheet(&layout, paper, &state_line(world), &flash, &legend(&layout, &history))
 }
 
 /// A text as JSON, made safe for markup first.
@@ -329,26 +241,42 @@ fn step_json(step: &Step) -> String {
 pub fn html(history: &History) -> Result<String, String> {
     let Some(g) = history.geometry else { return Err("there is nothing to draw yet: no step was made".into()) };
     let layout = Layout::of(g);
-    let short = layout.short();
+    let forms = layout.forms();
     let kinds = list(KINDS.iter().map(|k| format!("[\"{}\",\"{}\",{}]", k.css, k.letter, json(k.words))));
-    let words = list(history.words.iter().map(|w| format!("[{},{},{},{}]", json(&w.one), json(&w.two), json(&w.tell), w.id)));
-    let codes = Zone::ALL.map(zone_css).map(|(css, code)| format!("\"{css}\":\"{code}\"")).join(",");
-    let template = layout.cell_markup().replace('\\', "\\\\").replace('"', "\\\"").replace("</", "<\\/");
+    let words = list(history.words.iter().map(|w| {
+        let short = [&w.one, &w.two, &w.mark, &w.version, &w.tell].map(|t| json(t)).join(",");
+        format!("[{short},{},{}]", w.id, list(forms.iter().map(|f| format!("{:?}", layout.sizes(f, w)))))
+    }));
+    let letters = Zone::ALL.map(zone_css).map(|(css, letters)| format!("\"{css}\":\"{letters}\"")).join(",");
+    let quoted = |text: String| text.replace('\\', "\\\\").replace('"', "\\\"").replace("</", "<\\/");
+    let templates = list(forms.iter().map(|f| format!("[\"{}\",{}]", quoted(layout.cell_markup(f)), f.least)));
     let steps = list(history.steps.iter().map(|s| format!("\n{}", step_json(s))));
-    let measures = [("left", layout.left), ("top", layout.top), ("column", layout.column), ("height", layout.cell.1), ("width", layout.width())];
+    let measures = [
+        ("left", layout.left),
+        ("top", layout.top),
+        ("column", layout.column),
+        ("row", layout.cell.1),
+        ("width", layout.width()),
+        ("height", layout.height()),
+        ("paper", layout.on_paper(&forms) as f64),
+    ];
     let measures = measures.map(|(name, value)| format!("\"{name}\":{value}")).join(",");
     let data = format!(
-        "const lab={{\"blocks\":{},\"pages\":{},{measures},\"short\":{short},\"cell\":\"{template}\",\"kinds\":{kinds},\
-         \"codes\":{{{codes}}},\n\"words\":{words},\n\"steps\":{steps}}};",
-        g.blocks, g.pages
+        "const lab={{\"blocks\":{},\"pages\":{},{measures},\"short\":{},\"forms\":{templates},\"kinds\":{kinds},\
+         \"letters\":{{{letters}}},\n\"words\":{words},\n\"steps\":{steps}}};",
+        g.blocks,
+        g.pages,
+        layout.short()
     );
     let zones: Vec<(&str, String)> = (0..layout.blocks()).map(|_| ("zq", String::new())).collect();
-    let picture = picture(&layout, "", &zones, "", None, 2);
+    let picture = picture(&layout, 0, (layout.width(), 0.0, layout.height()), &flash(&layout, &zones, "", None, 2));
+    let item = |(sample, words)| format!("<li><svg viewBox=\"-1 -1 30 18\">{sample}</svg>{words}</li>\n");
+    let legend: String = legend(&layout, history).into_iter().map(item).collect();
     let title = format!("The flash, step by step: {} blocks of {} pages, {} logical pages", g.blocks, g.pages, g.logical);
-    let wide = if short { "wide" } else { "" };
     Ok(format!(
         "<!DOCTYPE html>\n<html lang=\"en\"><head><meta charset=\"utf-8\"><meta name=\"viewport\" content=\"width=device-width\"><title>{title}</title>\n\
-         <style>{PAGE_STYLE}</style></head>\n<body class=\"{wide}\"><header><div id=\"bar\"><b>{title}</b>{CONTROLS}</div>\n{CAPTION}</header>\n\
-         <main><div id=\"picture\">{picture}</div><ol id=\"steps\"></ol></main>\n<script>{data}\n{PAGE_SCRIPT}</script></body></html>\n"
+         <style>{PAGE_STYLE}</style></head>\n<body><header><b id=\"title\">{title}</b><div id=\"bar\">{CONTROLS}</div>\n{CAPTION}</header>\n\
+         <main><div id=\"picture\">{picture}</div><ol id=\"steps\"></ol></main>\n<ul id=\"legend\">{legend}</ul>\n\
+         <script>{data}\n{PAGE_SCRIPT}</script></body></html>\n"
     ))
 }

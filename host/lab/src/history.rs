@@ -44,6 +44,9 @@ pub struct History {
     zones: Vec<(&'static str, String)>,
 }
 
+/// Where the zones are not known: far out of the picture.
+const NO_POINTER: u8 = u8::MAX;
+
 const CLEAN: Cell = Cell { kind: ERASED, edges: 0, words: 0 };
 
 impl History {
@@ -67,7 +70,7 @@ impl History {
         for (k, page) in world.pages.list.iter().enumerate() {
             let same = self.stamps[k] == world.pages.stamps[k];
             let cell = Cell {
-                kind: kind_of(page, view.fates[k], view.holds[k]),
+                kind: kind_of(page, view.fates[k], view.holds(k)),
                 edges: edges(&view, &world.pages.list, k),
                 words: if same { self.cells[k].words } else { self.word(words(world, k)) },
             };
@@ -90,7 +93,15 @@ impl History {
                 zones.push((b, now.0, now.1));
             }
         }
-        self.steps.push(Step { text: text.into(), said: said.into(), state: state_line(world), runs, zones, next: view.next, pointer: view.pointer });
+        self.steps.push(Step {
+            text: text.into(),
+            said: said.into(),
+            state: state_line(world),
+            runs,
+            zones,
+            next: view.next,
+            pointer: view.pointer.unwrap_or(NO_POINTER),
+        });
     }
 
     fn word(&mut self, words: Words) -> u32 {

@@ -1,10 +1,11 @@
 //! How each page looks in a picture: its kind (colour, pattern and letter), the edges of its transaction's outline, and its words.
 use crate::{
+    data::data_words,
     pages::{Class, Page},
-    show::data_words,
     view::{Fate, View, Zone},
     world::World,
 };
+use bokuhira::{Call, Refusal};
 
 /// A kind of cell: its class in the style sheet, its letter, and its words in the legend.
 pub struct Kind {
@@ -18,14 +19,14 @@ const fn kind(css: &'static str, letter: &'static str, words: &'static str) -> K
 }
 
 pub const ERASED: u8 = 0;
-pub const KINDS: [Kind; 18] = [
+pub const KINDS: [Kind; 25] = [
     kind("e", "", "erased"),
     kind("a", "A", "active: its change is open"),
     kind("c h", "C", "committed, and holds"),
-    kind("c", "C", "committed, replaced by a later page"),
-    kind("d h", "D", "dead (over and done), and still holds"),
-    kind("d", "D", "dead, and replaced"),
-    kind("x", "X", "abandoned: aborted or cut"),
+    kind("c", "C", "committed, does not hold"),
+    kind("d h", "D", "dead (settled by a checkpoint), and holds"),
+    kind("d", "D", "dead, does not hold"),
+    kind("x", "X", "abandoned: not committed, does not hold"),
     kind("t", "T", "torn: belongs to nobody"),
     kind("b", "!", "bad page: recover refuses"),
     kind("n", "M", "map page of the newest checkpoint"),
@@ -34,30 +35,44 @@ pub const KINDS: [Kind; 18] = [
     kind("o", "Z", "zone page of an older checkpoint"),
     kind("p", "M", "map page, checkpoint not complete"),
     kind("p", "Z", "zone page, checkpoint not complete"),
-    kind("x h", "X", "abandoned, and yet holds"),
     kind("b h", "!", "bad page, and yet holds"),
-    kind("u", "?", "whole; its zone is not known"),
+    kind("u", "?", "whole; no zone is known"),
+    kind("d h", "O", "outside the scan, and holds"),
+    kind("d", "O", "outside the scan, does not hold"),
+    kind("u", "C", "committed; not known whether it holds"),
+    kind("u", "D", "dead; not known whether it holds"),
+    kind("u", "O", "outside the scan; not known whether it holds"),
+    kind("u", "X", "not committed in the scan; not known whether it holds"),
+    kind("b", "!", "in the newest checkpoint: recover refuses it"),
+    kind("p", "?", "in the front, of no checkpoint"),
 ];
 
-/// The kind of a page, as an index into `KINDS`.
-pub fn kind_of(page: &Page, fate: Fate, holds: bool) -> u8 {
+/// The kind of a page, as an index into `KINDS`; `holds` is none where no map is known.
+pub fn kind_of(page: &Page, fate: Fate, holds: Option<bool>) -> u8 {
     let zone_page = (page.kind == 2) as u8;
     match (page.class, fate, holds) {
         (Class::Erased, ..) => ERASED,
         (Class::Torn, ..) => 7,
         (_, Fate::Active, _) => 1,
-        (_, Fate::Committed, true) => 2,
-        (_, Fate::Committed, false) => 3,
-        (_, Fate::Dead, true) => 4,
-        (_, Fate::Dead, false) => 5,
-        (_, Fate::Abandoned, false) => 6,
-        (_, Fate::Abandoned, true) => 15,
-        (_, Fate::Bad, false) => 8,
-        (_, Fate::Bad, true) => 16,
+        (_, Fate::Committed, Some(true)) => 2,
+        (_, Fate::Committed, Some(false)) => 3,
+        (_, Fate::Committed, None) => 19,
+        (_, Fate::Dead, Some(true)) => 4,
+        (_, Fate::Dead, Some(false)) => 5,
+        (_, Fate::Dead, None) => 20,
+        (_, Fate::Outside, Some(true)) => 17,
+        (_, Fate::Outside, Some(false)) => 18,
+        (_, Fate::Outside, None) => 21,
+        (_, Fate::Abandoned, _) => 6,
+        (_, Fate::Uncommitted, _) => 22,
+        (_, Fate::Bad, Some(true)) => 15,
+        (_, Fate::Bad, _) => 8,
         (_, Fate::Newest, _) => 9 + zone_page,
         (_, Fate::Older, _) => 11 + zone_page,
-        (_, Fate::Part, _) => 13 + zone_page,
-        (_, Fate::Unknown | Fate::Nobody, _) => 17,
+        (_, Fate::Part, _) if page.kind == 1 || page.kind == 2 => 13 + zone_page,
+        (_, Fate::Part, _) => 24,
+        (_, Fate::Refused, _) => 23,
+        (_, Fate::Unknown | Fate::Nobody, _) => 16,
     }
 }
 
@@ -116,17 +131,22 @@ fn group(view: &View, pages: &[Page], k: usize) -> Group {
     }
 }
 
-/// A page in words: two short lines for its cell, one long line for whoever points at it, and its identifier.
+/// A page in words: short ones for its cell, one long line for whoever points at it, and its identifier.
 #[derive(Clone, PartialEq, Eq, Hash, Default)]
 pub struct Words {
+    /// What it is, with its number.
     pub one: String,
+    /// Whose it is.
     pub two: String,
+    /// A mark's count of pages.
+    pub mark: String,
+    pub version: String,
     pub tell: String,
     pub id: u32,
 }
 
 impl Words {
-    /// The number that the first line ends with.
+    /// The number that `one` ends with.
     pub fn number(&self) -> &str {
         self.one.split(' ').nth(1).unwrap_or("")
     }
@@ -137,31 +157,39 @@ pub fn words(world: &World, k: usize) -> Words {
     match (p.class, p.kind) {
         (Class::Erased, _) => Words::default(),
         (Class::Torn, _) => {
-            Words { one: "torn".into(), two: "nobody's".into(), tell: format!("torn; Zeros {}, counted {}", p.zeros, p.counted), id: 0 }
+            let tell = format!("torn; Zeros {}, counted {}", p.zeros, p.counted);
+            Words { one: "torn".into(), two: "nobody's".into(), tell, ..Words::default() }
         }
         (Class::Whole, kind) => {
-            let (one, two) = match (kind, p.id, p.cnt) {
-                (1, ..) => (format!("map {}", p.lpn), format!("checkpt {}", p.ver)),
-                (2, ..) => ("zones".into(), format!("checkpt {}", p.ver)),
-                (_, 0, _) => (format!("LPN {}", p.lpn), format!("lone v{}", p.ver)),
-                (_, id, 0) => (format!("LPN {}", p.lpn), format!("id {id}")),
-                (_, id, n) => (format!("LPN {}", p.lpn), format!("id {id} ▲{n} v{}", p.ver)),
+            let (lpn, version, none) = (format!("LPN {}", p.lpn), format!("v{}", p.ver), String::new);
+            let (one, two, mark, version) = match (kind, p.id, p.cnt) {
+                (1, ..) => (format!("map {}", p.lpn), format!("checkpt {}", p.ver), none(), none()),
+                (2, ..) => ("zones".into(), format!("checkpt {}", p.ver), none(), none()),
+                (_, 0, _) => (lpn, "lone".into(), none(), version),
+                (_, id, 0) => (lpn, format!("id {id}"), none(), none()),
+                (_, id, n) => (lpn, format!("id {id}"), format!("▲{n}"), version),
             };
             let fields = format!("LPN {}, TxCnt {}, TxID {}, TxVer {}, Kind {} {}", p.lpn, p.cnt, p.id, p.ver, p.kind, p.kind_word());
             let data = if kind == 0 { format!(", data {}", data_words(world.data(k))) } else { String::new() };
-            Words { one, two, tell: format!("whole; {fields}{data}"), id: if kind == 0 { p.id } else { 0 } }
+            Words { one, two, mark, version, tell: format!("whole; {fields}{data}"), id: if kind == 0 { p.id } else { 0 } }
         }
     }
 }
 
-/// The state in one line.
+/// The state in one line; without one, what a recovery finds, or why it is refused.
 pub fn state_line(world: &World) -> String {
-    let Some(s) = world.state() else { return "the state is lost; shown as a recovery will find it".into() };
+    let Some(s) = world.state() else {
+        return match world.recovered() {
+            Ok(_) => "the state is lost; shown as a recovery will find it".into(),
+            Err(why) => why.sentence(),
+        };
+    };
     let open: Vec<String> = s.places.iter().filter(|p| !p.is_free()).map(|p| format!("{} ({} written)", p.id, p.lpns.len())).collect();
     let open = if open.is_empty() { "no change open".into() } else { format!("open changes: {}", open.join(", ")) };
     let work = match crate::trace::kind_word(s.work.kind) {
         "idle" => String::new(),
         work => format!("; {work} under way"),
     };
-    format!("last version {}, checkpoint {}, {} logical pages mapped; {open}{work}", s.version, s.checkpoint, world.mapped_count())
+    let bad = world.reason(&Call::Read(0), Refusal(1)).map_or(String::new(), |why| format!("; until a recover, calls answer 1 bad frame: {why}"));
+    format!("last version {}, checkpoint {}, {} logical pages mapped; {open}{work}{bad}", s.version, s.checkpoint, world.mapped_count())
 }

@@ -2,7 +2,7 @@
 const el = id => document.getElementById(id);
 const layer = el('cells');
 const clean = [0, 0, 0];
-let cells = [], shown = [], zones = [], at = -1, pinned = -1, timer = 0, zoom = 1;
+let cells = [], shown = [], zones = [], at = -1, latest = 0, pinned = -1, timer = 0, zoom = 1, scale = 1, form = 0;
 
 // The world at step n: every step's changes from the first on, then only what differs is drawn.
 function go(n) {
@@ -10,27 +10,34 @@ function go(n) {
   if (n < at || at < 0) { cells = []; zones = []; at = -1; }
   for (let i = at + 1; i <= n; i++) {
     const step = lab.steps[i];
-    for (const [first, pages, kind, edges, words] of step.runs)
+    for (const [first, pages, kind, edges, words] of step.runs) {
       for (let k = first; k < first + pages; k++) cells[k] = [kind, edges, words];
+      latest = first + pages - 1;
+    }
     for (const [b, css, words] of step.zones) zones[b] = [css, words];
   }
   at = n;
   draw();
 }
 
+// The step that the address names (#5 is the fifth), else the first.
+function start() { go((parseInt(location.hash.slice(1)) || 1) - 1); }
+
 function name(k) { return `page ${k} (block ${Math.floor(k / lab.pages)}, page ${k % lab.pages})`; }
 
-function place(k) { return [lab.left + Math.floor(k / lab.pages) * lab.column, lab.top + (k % lab.pages) * lab.height]; }
+function place(k) { return [lab.left + Math.floor(k / lab.pages) * lab.column, lab.top + (k % lab.pages) * lab.row]; }
 
 function tell(k) {
   const [kind, , words] = cells[k] || clean;
-  return name(k) + ': ' + (kind ? lab.words[words][2] + ' - ' + lab.kinds[kind][2] : 'erased');
+  return name(k) + ': ' + (kind ? lab.words[words][4] + ' - ' + lab.kinds[kind][2] : 'erased');
 }
 
 function markup(k) {
   const [kind, edges, words] = cells[k], [x, y] = place(k), [css, letter] = lab.kinds[kind];
-  const part = { x, y, k, css, letter, edges, nr: lab.words[words][0].split(' ')[1] || '', one: lab.words[words][0], two: lab.words[words][1], tell: tell(k) };
-  return lab.cell.replace(/\{(\w+)\}/g, (_, field) => part[field]);
+  const [one, two, mark, version, , , sizes] = lab.words[words];
+  const part = { x, y, k, css, letter, line: edges >> 2, sides: edges & 3, nr: one.split(' ')[1] || '', one, two, mark, version, tell: tell(k) };
+  sizes[form].forEach((size, i) => part['s' + i] = size);
+  return lab.forms[form][0].replace(/\{(\w+)\}/g, (_, field) => part[field]);
 }
 
 function draw() {
@@ -53,7 +60,7 @@ function draw() {
   zones.forEach(([css, words], b) => {
     const block = el('b' + b), word = block.querySelector('.zone');
     block.setAttribute('class', 'block ' + css);
-    word.innerHTML = lab.short ? lab.codes[css] : words;
+    word.innerHTML = lab.short ? lab.letters[css] : words;
   });
   const next = el('next');
   next.style.display = step.next < 0 ? 'none' : '';
@@ -64,12 +71,16 @@ function draw() {
   el('text').innerHTML = step.text;
   el('said').innerHTML = step.said;
   el('state').innerHTML = step.state;
-  document.querySelectorAll('#steps .now').forEach(li => li.classList.remove('now'));
-  const li = el('steps').children[at];
-  li.classList.add('now');
-  const box = el('steps');
-  if (li.offsetTop < box.scrollTop || li.offsetTop + li.offsetHeight > box.scrollTop + box.clientHeight) box.scrollTop = li.offsetTop - box.clientHeight / 2;
+  follow();
   pin();
+}
+
+// The step that is shown, marked in the list and in its view.
+function follow() {
+  const box = el('steps'), li = box.children[at];
+  box.querySelectorAll('.now').forEach(other => other.classList.remove('now'));
+  li.classList.add('now');
+  if (li.offsetTop < box.scrollTop || li.offsetTop + li.offsetHeight > box.scrollTop + box.clientHeight) box.scrollTop = li.offsetTop - box.clientHeight / 2;
 }
 
 // The page that was clicked stays in the line, and the pages of its transaction are marked.
@@ -77,7 +88,7 @@ function pin() {
   document.querySelectorAll('.same').forEach(g => g.classList.remove('same'));
   if (pinned < 0) return;
   el('tell').innerHTML = tell(pinned);
-  const id = k => cells[k] && cells[k][0] ? lab.words[cells[k][2]][3] : 0;
+  const id = k => cells[k] && cells[k][0] ? lab.words[cells[k][2]][5] : 0;
   const mine = id(pinned);
   for (const g of layer.children) {
     const k = +g.id.slice(1);
@@ -86,8 +97,8 @@ function pin() {
 }
 
 function pageAt(event) {
-  const svg = document.querySelector('#picture svg'), p = new DOMPoint(event.clientX, event.clientY).matrixTransform(svg.getScreenCTM().inverse());
-  const b = Math.floor((p.x - lab.left) / lab.column), q = Math.floor((p.y - lab.top) / lab.height);
+  const p = new DOMPoint(event.clientX, event.clientY).matrixTransform(el('flash').getScreenCTM().inverse());
+  const b = Math.floor((p.x - lab.left) / lab.column), q = Math.floor((p.y - lab.top) / lab.row);
   return b >= 0 && b < lab.blocks && q >= 0 && q < lab.pages ? b * lab.pages + q : -1;
 }
 
@@ -100,32 +111,62 @@ function play() {
   el('play').textContent = timer ? 'stop' : 'play';
 }
 
-function size(factor) {
-  zoom = factor ? Math.max(.5, Math.min(8, zoom * factor)) : 1;
-  const svg = document.querySelector('#picture svg');
-  svg.style.width = lab.short || zoom !== 1 ? `${100 * zoom}%` : `min(100%, ${1.3 * lab.width}px)`;
+// All cells in another form.
+function reform(to) {
+  if (to === form) return;
+  el('flash').classList.replace('f' + form, 'f' + to);
+  form = to;
+  shown = [];
+  draw();
 }
 
+// At zoom 1 the flash fills the room that there is. The middle of the view stays, or that page comes there; and the cells tell as much
+// as can be read at this size.
+function size(page = -1) {
+  const pane = el('picture'), half = [pane.clientWidth / 2, pane.clientHeight / 2];
+  const [x, y] = page < 0 ? [(pane.scrollLeft + half[0]) / scale, (pane.scrollTop + half[1]) / scale] : place(page);
+  scale = zoom * Math.min(pane.offsetWidth / lab.width, pane.offsetHeight / lab.height);
+  el('flash').style.width = `${scale * lab.width}px`;
+  pane.scrollTo(x * scale - half[0], y * scale - half[1]);
+  reform(lab.forms.reduce((last, [, least], i) => scale >= least ? i : last, 0));
+}
+
+// Towards the page that was clicked, else the one that changed last, where it is in view.
+function magnify(factor) {
+  const pane = el('picture'), page = pinned < 0 ? latest : pinned;
+  const [x, y] = place(page).map(v => v * scale), [left, top] = [x - pane.scrollLeft, y - pane.scrollTop];
+  const seen = left >= 0 && left < pane.clientWidth && top >= 0 && top < pane.clientHeight;
+  zoom = factor ? Math.max(.5, Math.min(16, zoom * factor)) : 1;
+  size(seen ? page : -1);
+}
+
+function toggle(part) {
+  el(part).setAttribute('aria-pressed', document.body.classList.toggle(part));
+  size();
+  follow();
+}
+
+const buttons = {
+  first: () => go(0), back: () => go(at - 1), on: () => go(at + 1), last: () => go(lab.steps.length - 1), play,
+  smaller: () => magnify(1 / 1.5), fit: () => magnify(0), larger: () => magnify(1.5), list: () => toggle('list'), key: () => toggle('key'),
+};
+const keys = { Home: 'first', ArrowLeft: 'back', ArrowRight: 'on', End: 'last', '-': 'smaller', 0: 'fit', '+': 'larger', '=': 'larger', s: 'list', l: 'key' };
+for (const id in buttons) el(id).onclick = buttons[id];
+document.addEventListener('keydown', e => {
+  const named = e.key.length > 1, id = keys[named ? e.key : e.key.toLowerCase()];
+  if (!id || e.ctrlKey || e.metaKey || e.altKey || (named && e.target.id === 'slider')) return;
+  buttons[id]();
+  e.preventDefault();
+});
 el('steps').innerHTML = lab.steps.map((s, i) => `<li>${i + 1} <b>${s.text}</b> ${s.said}</li>`).join('');
 el('steps').addEventListener('click', e => { const li = e.target.closest('li'); if (li) go([...el('steps').children].indexOf(li)); });
 el('slider').max = lab.steps.length - 1;
 el('slider').addEventListener('input', e => go(+e.target.value));
-el('first').onclick = () => go(0);
-el('back').onclick = () => go(at - 1);
-el('on').onclick = () => go(at + 1);
-el('last').onclick = () => go(lab.steps.length - 1);
-el('play').onclick = play;
-el('larger').onclick = () => size(1.5);
-el('smaller').onclick = () => size(1 / 1.5);
-el('fit').onclick = () => size(0);
-document.addEventListener('keydown', e => {
-  const move = { ArrowLeft: -1, ArrowRight: 1 }[e.key];
-  if (e.target.id === 'slider' && move) return;
-  if (move) { go(at + move); e.preventDefault(); }
-  if (e.key === 'Home') go(0);
-  if (e.key === 'End') go(lab.steps.length - 1);
-});
 el('picture').addEventListener('mousemove', e => { const k = pageAt(e); if (k >= 0) el('tell').innerHTML = tell(k); else if (pinned >= 0) el('tell').innerHTML = tell(pinned); });
 el('picture').addEventListener('click', e => { const k = pageAt(e); pinned = k === pinned ? -1 : k; pin(); });
-size(0);
-go(Math.min(lab.steps.length - 1, +(location.hash.slice(1) || lab.steps.length) - 1));
+addEventListener('beforeprint', () => reform(lab.paper));
+addEventListener('afterprint', () => size());
+addEventListener('hashchange', start);
+new ResizeObserver(() => size()).observe(el('picture'));
+start();
+toggle('list');

@@ -1,7 +1,7 @@
 //! What a trace says behind `=`: digests, states as words, and whether a call or a cut agrees with it.
 use crate::pages::{Class, Op};
 use crate::world::World;
-use bokuhira::{Answer, Geometry, Kind, Place, State, Store, Work, Zones, PAGE};
+use bokuhira::{Answer, Geometry, Kind, Place, Refusal, State, Store, Work, Zones, PAGE};
 use std::collections::HashMap;
 
 /// 64-bit FNV-1a.
@@ -145,5 +145,18 @@ pub fn agrees(said: &str, answer: Answer, op: Op, before: &Store, world: &World)
         Ok(())
     } else {
         Err(format!("expected {said_left}\n  found {found}"))
+    }
+}
+
+/// The same for a read: its answer, and the digest of what it handed back.
+pub fn read_agrees(expected: &str, read: Result<&[u8], Refusal>) -> Result<(), String> {
+    let found = match read {
+        Ok(data) => format!("0 {}", digest(data)),
+        Err(r) => format!("{} -", r.0),
+    };
+    if found == expected || found.split(' ').next() == Some(expected) {
+        Ok(())
+    } else {
+        Err(format!("expected {expected}, found {found}"))
     }
 }

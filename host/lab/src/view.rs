@@ -1,7 +1,11 @@
 //! The array as a recovery sees it: the zone of each block, the scan order, the checkpoints in the front, and what became of each
 //! page's transaction.
-use crate::pages::{Class, Page};
-use bokuhira::{Geometry, Kind, State, PAGE};
+use crate::{
+    checkpoints::{complete, newest, Checkpoint},
+    pages::{Class, Page},
+    why::{bad_pages, Why},
+};
+use bokuhira::{Geometry, Kind, State};
 use std::collections::{HashMap, HashSet};
 
 #[derive(Clone, Copy, PartialEq, Eq, Debug)]
@@ -39,12 +43,18 @@ pub enum Fate {
     Committed,
     Dead,
     Abandoned,
+    /// Dead or abandoned: without a map nobody knows which.
+    Uncommitted,
+    /// In a block that no scan reads.
+    Outside,
     /// A page that recovery refuses with 4.
     Bad,
     /// A page of the newest complete checkpoint, of an older one, or of none.
     Newest,
     Older,
     Part,
+    /// The page of the newest one for which recovery refuses with 3.
+    Refused,
     /// A whole page in a block whose zone nobody knows.
     Unknown,
 }
@@ -57,26 +67,25 @@ impl Fate {
             Fate::Committed => "committed",
             Fate::Dead => "dead",
             Fate::Abandoned => "abandoned",
+            Fate::Uncommitted => "not committed in the scan",
+            Fate::Outside => "outside the scan",
             Fate::Bad => "bad page",
             Fate::Newest => "newest checkpoint",
             Fate::Older => "older checkpoint",
             Fate::Part => "no complete checkpoint",
+            Fate::Refused => "newest checkpoint, which recover refuses",
             Fate::Unknown => "not known",
         }
     }
 }
 
-/// A complete checkpoint in a front block.
-#[derive(Clone, PartialEq, Eq, Debug)]
-pub struct Checkpoint {
-    /// The page number of its first page.
-    pub first: usize,
-    pub number: u32,
-    pub last_version: u32,
-    pub pointer: u8,
-    pub available: Vec<u8>,
-    pub unavailable: Vec<u8>,
-    pub free: Vec<u8>,
+/// What zones and map are known from.
+pub enum Source<'a> {
+    State(&'a State, &'a [u16]),
+    /// There is no state; a recovery makes this map.
+    Recovery(&'a [u16]),
+    /// There is no state, and a recovery is refused: no map is known.
+    Refused(Why),
 }
 
 pub struct View {
@@ -85,48 +94,67 @@ pub struct View {
     /// The available and unavailable blocks, in zone order.
     pub available: Vec<u8>,
     pub unavailable: Vec<u8>,
-    pub pointer: u8,
+    /// None where the zones are not known.
+    pub pointer: Option<u8>,
     pub fates: Vec<Fate>,
-    /// Of each page, whether the map points to it.
-    pub holds: Vec<bool>,
+    /// Of each page, whether the map points to it; none where no map is known.
+    pub holds: Option<Vec<bool>>,
+    /// What refusal 4 sees on each bad page.
+    pub clauses: HashMap<usize, String>,
     pub checkpoints: Vec<Checkpoint>,
     /// Which of them recovery takes.
     pub newest: Option<usize>,
     /// The page that the next program of data takes.
     pub next: Option<usize>,
+    /// Why a recovery is refused, where one is needed and is not done.
+    pub refused: Option<Why>,
 }
 
 impl View {
-    /// Over the pages of `array` and a map; with the state where there is one, else with the zones of the newest complete checkpoint.
-    pub fn of(g: Geometry, array: &[u8], pages: &[Page], map: &[u16], state: Option<&State>) -> View {
+    /// Over the pages of `array`. The zones are the state's; without one, those of the newest complete checkpoint, unless a recovery
+    /// refuses that.
+    pub fn of(g: Geometry, array: &[u8], pages: &[Page], source: Source) -> View {
         let blocks = g.blocks as usize;
-        let checkpoints = checkpoints(g, array, pages);
-        let newest = (0..checkpoints.len()).rev().max_by_key(|i| checkpoints[*i].number);
-        let from = newest.map(|i| &checkpoints[i]);
-        let (available, unavailable, free, pointer, known) = match (state, from) {
-            (Some(s), _) => {
-                (s.zones.available.clone(), s.zones.unavailable.clone(), s.zones.free.clone(), s.zones.pointer, s.work.kind != Kind::Format)
-            }
-            (None, Some(c)) => (c.available.clone(), c.unavailable.clone(), c.free.clone(), c.pointer, true),
-            (None, None) => (vec![], vec![], vec![], 2, false),
+        let checkpoints = complete(g, array, pages);
+        let newest = newest(&checkpoints);
+        let taken = newest.map(|i| &checkpoints[i]);
+        let of_checkpoint = |c: &Checkpoint| (c.available.clone(), c.unavailable.clone(), c.free.clone(), c.pointer);
+        let of_state = |s: &State| (s.zones.available.clone(), s.zones.unavailable.clone(), s.zones.free.clone(), s.zones.pointer);
+        let lists = match &source {
+            Source::State(s, _) => (s.work.kind != Kind::Format).then(|| of_state(s)),
+            Source::Recovery(_) => taken.map(of_checkpoint),
+            Source::Refused(why) => taken.filter(|_| why.refusal.0 == 4).map(of_checkpoint),
         };
+        let known = lists.is_some();
+        let pointer = lists.as_ref().map(|l| l.3);
+        let (available, unavailable, free, _) = lists.unwrap_or_default();
         let mut zones = vec![if known { Zone::Checkpointed } else { Zone::Unknown }; blocks];
         for (list, zone) in [(&available, Zone::Available), (&unavailable, Zone::Unavailable), (&free, Zone::Free)] {
             list.iter().filter(|b| (**b as usize) < blocks).for_each(|b| zones[*b as usize] = zone);
         }
         zones.iter_mut().take(2).for_each(|z| *z = Zone::Front);
-        let mut holds = vec![false; pages.len()];
-        for (lpn, k) in map.iter().enumerate() {
-            if pages.get(*k as usize).is_some_and(|p| p.is_whole() && p.lpn as usize == lpn) {
-                holds[*k as usize] = true;
-            }
-        }
+        let (state, holds, refused) = match source {
+            Source::State(s, map) => (Some(s), Some(held(pages, map)), None),
+            Source::Recovery(map) => (None, Some(held(pages, map)), None),
+            Source::Refused(why) => (None, None, Some(why)),
+        };
         let fates = vec![Fate::Nobody; pages.len()];
-        let mut view = View { geometry: g, zones, available, unavailable, pointer, fates, holds, checkpoints, newest, next: None };
+        let clauses = HashMap::new();
+        let mut view = View { geometry: g, zones, available, unavailable, pointer, fates, holds, clauses, checkpoints, newest, next: None, refused };
         view.judge(pages, state);
         let with_room = state.and_then(|_| view.available.iter().map(|b| *b as usize).find(|b| view.clean(pages, *b) > 0));
         view.next = with_room.map(|b| view.block(b).end - view.clean(pages, b));
         view
+    }
+
+    /// Whether the zones are known, and with them the scan order.
+    pub fn zones_known(&self) -> bool {
+        self.pointer.is_some()
+    }
+
+    /// Whether the map points to a page; none where no map is known.
+    pub fn holds(&self, k: usize) -> Option<bool> {
+        self.holds.as_ref().map(|h| h[k])
     }
 
     /// The pages of a block, as numbers.
@@ -156,83 +184,93 @@ impl View {
 
     fn judge(&mut self, pages: &[Page], state: Option<&State>) {
         let map_pages = self.geometry.map_pages();
+        let at_fault = |k: usize| self.refused.as_ref().is_some_and(|why| why.refusal.0 == 3 && why.pages.contains(&k));
         for k in self.block(0).chain(self.block(1)) {
             let inside = |c: &Checkpoint| (c.first..=c.first + map_pages).contains(&k);
             self.fates[k] = match (pages[k].is_whole(), self.newest) {
                 (false, _) => Fate::Nobody,
+                (true, Some(_)) if at_fault(k) => Fate::Refused,
                 (true, Some(n)) if inside(&self.checkpoints[n]) => Fate::Newest,
                 _ if self.checkpoints.iter().any(inside) => Fate::Older,
                 _ => Fate::Part,
             };
         }
-        for b in 2..self.zones.len() {
-            let fate = if self.zones[b] == Zone::Unknown { Fate::Unknown } else { Fate::Dead };
-            self.block(b).for_each(|k| self.fates[k] = if pages[k].is_whole() { fate } else { Fate::Nobody });
+        let fate = if self.zones_known() { Fate::Outside } else { Fate::Unknown };
+        for k in 2 * self.geometry.pages as usize..pages.len() {
+            self.fates[k] = if pages[k].is_whole() { fate } else { Fate::Nobody };
         }
         let active: HashSet<u32> = state.iter().flat_map(|s| &s.places).map(|p| p.id).filter(|id| *id != 0).collect();
         let scan: Vec<usize> = self.scan().filter(|k| pages[*k].is_whole()).collect();
-        let mut counts: HashMap<u32, u32> = HashMap::new();
+        self.clauses = bad_pages(self.geometry, pages, scan.iter().copied()).into_iter().collect();
+        let mut counts: HashMap<u32, u16> = HashMap::new();
         scan.iter().for_each(|k| *counts.entry(pages[*k].id).or_default() += 1);
-        let (mut marks, mut versions, mut bad) = (HashMap::new(), HashSet::new(), HashSet::new());
-        for &k in &scan {
-            let p = &pages[k];
-            let again = p.id != 0 && p.cnt != 0 && marks.insert(p.id, (p.cnt as u32, p.ver)).is_some();
-            if self.is_bad(p) || again || (p.ver > 0 && !versions.insert(p.ver)) {
-                bad.insert(k);
-            }
-        }
+        // the version of each transaction that a mark of it commits
+        let marks = scan.iter().map(|k| &pages[*k]).filter(|p| p.cnt != 0 && p.cnt == if p.id == 0 { 1 } else { counts[&p.id] });
+        let committed: HashMap<u32, u32> = marks.map(|p| (p.id, p.ver)).collect();
         let last = self.last_version();
         let over = |ver: u32| if ver > last { Fate::Committed } else { Fate::Dead };
         for &k in &scan {
             let p = &pages[k];
-            self.fates[k] = match marks.get(&p.id) {
-                _ if bad.contains(&k) => Fate::Bad,
+            self.fates[k] = match (committed.get(&p.id), self.holds(k)) {
+                _ if self.clauses.contains_key(&k) => Fate::Bad,
                 _ if p.id == 0 => over(p.ver),
                 _ if active.contains(&p.id) => Fate::Active,
-                Some((cnt, ver)) if *cnt == counts[&p.id] => over(*ver),
-                _ => Fate::Abandoned,
+                (Some(ver), _) => over(*ver),
+                // the checkpoint's map has it, and other pages of its change have left the scan
+                (None, Some(true)) => Fate::Dead,
+                (None, Some(false)) => Fate::Abandoned,
+                (None, None) => Fate::Uncommitted,
             };
         }
     }
-
-    /// What refusal 4 sees on a scanned whole page by itself.
-    fn is_bad(&self, p: &Page) -> bool {
-        let top = 0xFFFF_FFFF;
-        p.kind != 0
-            || p.reserved != 0
-            || p.lpn >= self.geometry.logical
-            || (p.cnt == 0) != (p.ver == 0)
-            || p.id == top
-            || p.ver == top
-            || (p.id == 0 && p.cnt != 1)
-    }
 }
 
-/// The complete checkpoints of both front blocks, in page order.
-fn checkpoints(g: Geometry, array: &[u8], pages: &[Page]) -> Vec<Checkpoint> {
-    let (p, m) = (g.pages as usize, g.map_pages());
-    let mut found = Vec::new();
-    for first in (0..2 * p).filter(|k| k % p + m < p) {
-        let number = pages[first].ver;
-        let fits = (0..=m).all(|j| {
-            let page = &pages[first + j];
-            let (kind, cnt) = if j == m { (2, m + 1) } else { (1, 0) };
-            page.is_whole() && (page.lpn as usize, page.cnt as usize, page.id, page.ver, page.kind, page.reserved) == (j, cnt, 0, number, kind, 0)
-        });
-        if fits {
-            let data = &array[(first + m) * PAGE..][..512];
-            let (a, u, f) = (data[5] as usize, data[6] as usize, data[7] as usize);
-            let list = |from: usize, n: usize| data[(8 + from).min(512)..(8 + from + n).min(512)].to_vec();
-            found.push(Checkpoint {
-                first,
-                number,
-                last_version: u32::from_le_bytes(data[..4].try_into().unwrap()),
-                pointer: data[4],
-                available: list(0, a),
-                unavailable: list(a, u),
-                free: list(a + u, f),
-            });
+/// Of each page, whether the map points to it and it is a whole page of that logical page.
+fn held(pages: &[Page], map: &[u16]) -> Vec<bool> {
+    let mut holds = vec![false; pages.len()];
+    for (lpn, k) in map.iter().enumerate() {
+        if pages.get(*k as usize).is_some_and(|p| p.is_whole() && p.lpn as usize == lpn) {
+            holds[*k as usize] = true;
         }
     }
-    found
+    holds
+}
+
+#[cfg(test)]
+mod tests {
+    use super::*;
+    use crate::{
+        look::{kind_of, state_line, KINDS},
+        lot::Lot,
+        show::show,
+        world::World,
+    };
+
+    #[test]
+    fn where_recover_refuses_nothing_is_said_of_what_holds() {
+        let mut refused = [0; 5];
+        for seed in 0..1500 {
+            let mut lot = Lot(seed);
+            let g = lot.geometry();
+            let mut store = lot.lived(g);
+            for _ in 0..2 {
+                lot.spoil_array(g, &mut store);
+            }
+            let logical = if seed % 9 == 0 { 0 } else { g.logical };
+            let world = World::import(Geometry { logical, ..g }, store.array);
+            let view = world.view();
+            let Some(why) = &view.refused else { continue };
+            refused[why.refusal.0 as usize] += 1;
+            assert!(view.holds.is_none());
+            assert_eq!(view.zones_known(), why.refusal.0 == 4);
+            for (k, page) in world.pages.list.iter().enumerate() {
+                let words = KINDS[kind_of(page, view.fates[k], view.holds(k)) as usize].words;
+                assert!(!words.contains("hold") || words.contains("not known whether it holds"), "{words}");
+            }
+            let shown = show(&world, &crate::command::Show::All).unwrap();
+            assert!(!shown.contains(", holds") && !shown.contains("replaced") && shown.contains(&why.sentence()), "{shown}");
+            assert_eq!(state_line(&world), why.sentence());
+        }
+        assert!(refused[1..].iter().all(|n| *n > 20), "{refused:?}");
+    }
 }

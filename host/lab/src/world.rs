@@ -2,10 +2,13 @@
 use crate::{
     book::Book,
     cut::{due_bits, turn, Cut, How},
+    frame,
     pages::{Op, Pages},
-    view::View,
+    view::{Source, View},
+    why::{self, Why},
+    words::refusal_words,
 };
-use bokuhira::{Answer, Call, Geometry, Kind, State, Store, DATA, HOLD, PAGE, STATE, UNMAPPED};
+use bokuhira::{Answer, Call, Geometry, Kind, Refusal, State, Store, DATA, HOLD, PAGE, STATE, UNMAPPED};
 use std::ops::Range;
 
 #[derive(Clone)]
@@ -43,14 +46,48 @@ impl World {
     }
 
     pub fn view(&self) -> View {
-        let found = if self.lost { self.recovered() } else { None };
-        View::of(self.geometry, &self.store.array, &self.pages.list, found.as_ref().map_or(&self.store.map, |s| &s.map), self.state().as_ref())
+        let view = |source: Source| View::of(self.geometry, &self.store.array, &self.pages.list, source);
+        match self.state() {
+            Some(state) => view(Source::State(&state, &self.store.map)),
+            None => match self.recovered() {
+                Ok(found) => view(Source::Recovery(&found.map)),
+                Err(why) => view(Source::Refused(why)),
+            },
+        }
     }
 
-    /// What a recovery makes of the array, on a copy; none where it refuses.
-    pub fn recovered(&self) -> Option<Store> {
+    /// What a recovery makes of the array, on a copy, or why it is refused.
+    pub fn recovered(&self) -> Result<Store, Why> {
         let mut copy = Store { array: self.store.array.clone(), ..Store::blank(self.geometry) };
-        (copy.recover(self.geometry) == Answer::Done).then_some(copy)
+        match copy.recover(self.geometry) {
+            Answer::Refused(refusal) => Err(self.why_recover(self.geometry, refusal)),
+            _ => Ok(copy),
+        }
+    }
+
+    /// Why a recovery of that geometry was refused with that number, which stands, whatever the diagnosis is.
+    fn why_recover(&self, g: Geometry, refusal: Refusal) -> Why {
+        let bare = Why { refusal, words: String::new(), pages: vec![] };
+        why::recover(g, &self.store, &self.pages.list).filter(|why| why.refusal == refusal).unwrap_or(bare)
+    }
+
+    /// What can be told of a call that this world refused with that number, beside the number's word.
+    pub fn reason(&self, call: &Call, refusal: Refusal) -> Option<String> {
+        let words = match call {
+            Call::Recover(g) => self.why_recover(*g, refusal).words,
+            Call::Format(_) => frame::why(&self.store, call)?,
+            _ if refusal.0 != 1 => return None,
+            _ if self.lost => "there is no state: recover first".into(),
+            _ => frame::why(&self.store, call)?,
+        };
+        let w = self.geometry;
+        match call {
+            Call::Format(g) | Call::Recover(g) if refusal.0 == 1 && *g != w => Some(format!(
+                "{words}; this flash has {} blocks of {} pages and {} logical pages; 'import' or 'blank' takes another",
+                w.blocks, w.pages, w.logical
+            )),
+            _ => Some(words).filter(|words| !words.is_empty()),
+        }
     }
 
     /// The pages of a block, none where there is no such block.
@@ -93,11 +130,16 @@ impl World {
     pub fn cut(&mut self, call: Option<&Call>, how: How, what: &str) {
         let mut after = self.store.clone();
         let answer = call.map(|c| after.call(c));
+        let nothing = match (call, answer) {
+            (Some(call), Some(Answer::Refused(r))) => {
+                let reason = self.reason(call, r).map_or(String::new(), |reason| format!(": {reason}"));
+                format!("the call is refused: {}{reason}; power lost between two calls", refusal_words(r))
+            }
+            (Some(_), _) => "power lost; no bit was due".into(),
+            (None, _) => "power lost between two calls".into(),
+        };
         let due = due_bits(&self.store.array, &after.array);
         let op = self.operation(&due);
-        let from = due.first().map_or(0, |bit| *bit as usize / 8 / PAGE * PAGE);
-        let until = due.last().map_or(0, |bit| (*bit as usize / 8 / PAGE + 1) * PAGE);
-        let before = self.store.array[from..until].to_vec();
         let turned: Vec<bool> = (0..due.len()).map(|i| how.turns(i, due.len())).collect();
         due.iter().zip(&turned).filter(|(_, t)| **t).for_each(|(bit, _)| turn(&mut self.store.array, *bit));
         let complete = matches!(op, Op::Program(_)) && turned.iter().all(|t| *t);
@@ -106,7 +148,7 @@ impl World {
             _ => self.book.iter_mut().for_each(|b| b.cut(call, complete)),
         }
         self.pages.follow(&self.store.array, self.geometry);
-        self.cut = Some(Cut { what: what.into(), op, due, turned, before, from });
+        self.cut = Some(Cut { what: what.into(), op, due, turned, nothing });
         self.dark(0, 0);
     }
 
@@ -144,32 +186,8 @@ impl World {
 #[cfg(test)]
 mod tests {
     use super::*;
-    use crate::{cut::Amount, script::seeded, view::Fate};
+    use crate::{cut::Amount, lot::Lot, view::Fate};
     use bokuhira::UNMAPPED;
-
-    /// Numbers that look drawn by lot.
-    struct Lot(u64);
-
-    impl Lot {
-        fn below(&mut self, n: u64) -> u64 {
-            self.0 = self.0.wrapping_mul(6364136223846793005).wrapping_add(1442695040888963407);
-            (self.0 >> 33) % n
-        }
-    }
-
-    fn some_call(lot: &mut Lot, logical: u16) -> Call {
-        let (id, lpn) = (lot.below(40) as u32 + 1, lot.below(logical as u64) as u16);
-        let data = seeded(lot.below(256));
-        match lot.below(16) {
-            0..=2 => Call::Begin(id),
-            3..=7 => Call::Write { id, lpn, data },
-            8 => Call::Lone { lpn, data },
-            9..=11 => Call::Commit(id),
-            12 => Call::Abort(id),
-            13 | 14 => Call::Checkpoint,
-            _ => Call::Reclaim,
-        }
-    }
 
     /// What the view says of the pages, carried out by hand on the newest checkpoint's map, is the map that the proved recovery makes.
     fn redo(world: &World) -> Vec<u16> {
@@ -202,7 +220,7 @@ mod tests {
             while world.call(&Call::Format(g)).0 == Answer::More {}
             let mut under_way = Call::Read(0);
             for _ in 0..400 {
-                let call = if matches!(under_way, Call::Read(_)) { some_call(&mut lot, g.logical) } else { under_way.clone() };
+                let call = if matches!(under_way, Call::Read(_)) { lot.call(g.logical) } else { under_way.clone() };
                 if lot.below(25) > 0 {
                     let (answer, _) = world.call(&call);
                     under_way = if answer == Answer::More { call } else { Call::Read(0) };

@@ -1,0 +1,45 @@
+//! Files: read and written with an error in words; and dumps of an array, bytes alone or with the three lines of report before them.
+use crate::world::World;
+use bokuhira::Geometry;
+
+pub fn write(file: &str, bytes: &[u8]) -> Result<(), String> {
+    std::fs::write(file, bytes).map_err(|e| format!("'{file}' cannot be written: {e}"))
+}
+
+pub fn read(file: &str) -> Result<Vec<u8>, String> {
+    std::fs::read(file).map_err(|e| format!("'{file}' cannot be read: {e}"))
+}
+
+/// The array of a world as a dump; `raw` leaves the lines out.
+pub fn dump(world: &World, raw: bool) -> Vec<u8> {
+    let g = world.geometry;
+    let lines = if raw { String::new() } else { format!("blocks={}\npages={}\nlogical={}\n", g.blocks, g.pages, g.logical) };
+    [lines.as_bytes(), &world.store.array].concat()
+}
+
+/// A dump: the bytes of an array, maybe with the three lines of report before them. A geometry that is given counts, whatever the lines say.
+pub fn image(file: &str, geometry: Option<Geometry>) -> Result<(Geometry, Vec<u8>), String> {
+    let bytes = read(file)?;
+    let (g, array) = match (geometry, with_lines(&bytes)) {
+        (given, Some((said, array))) => (given.unwrap_or(said), array),
+        (Some(given), None) => (given, &bytes[..]),
+        (None, None) => {
+            return Err(format!("'{file}' does not begin with blocks=, pages= and logical=: give the numbers, as in: import {file} 8 8 16"))
+        }
+    };
+    if (g.blocks as usize) < 2 || g.pages == 0 || array.len() != g.array_len() {
+        return Err(format!("'{file}' has {} bytes of array, and {} blocks of {} pages are {}", array.len(), g.blocks, g.pages, g.array_len()));
+    }
+    Ok((g, array.to_vec()))
+}
+
+fn with_lines(bytes: &[u8]) -> Option<(Geometry, &[u8])> {
+    let mut rest = bytes;
+    let mut numbers = [0u16; 3];
+    for (name, number) in ["blocks=", "pages=", "logical="].iter().zip(&mut numbers) {
+        let end = rest.iter().position(|b| *b == b'\n')?;
+        *number = std::str::from_utf8(&rest[..end]).ok()?.strip_prefix(name)?.parse().ok()?;
+        rest = &rest[end + 1..];
+    }
+    Some((Geometry::new(numbers[0], numbers[1], numbers[2]), rest))
+}

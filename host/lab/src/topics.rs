@@ -1,0 +1,94 @@
+//! The longer explanations behind `help`.
+
+pub const TOPICS: [(&str, &str); 7] = [
+    (
+        "how",
+        "HOW says which of the due bits a cut leaves turned. The due bits are those that the call's one\n\
+         program or erase would turn, in order: lowest byte first, in a byte bit 0 first.\n\
+         \x20 none, all      no bit, every bit\n\
+         \x20 first N        the first N; first N% the first part in a hundred\n\
+         \x20 last N         the last N; last N%\n\
+         \x20 but N          all but the one at index N, counted from 0; but last: all but the last\n\
+         \x20 every N R      those whose index leaves R when divided by N\n\
+         Example: cut commit 5 / first 10%\n\
+         A call that is refused has no due bits: the power then fails between two calls.",
+    ),
+    (
+        "sweep",
+        "sweep CALL tries the call once for each number of due bits: none turned, the first turned, the\n\
+         first two, and so on to all; after each cut it recovers and reads every logical page. It counts\n\
+         how many recoveries gave the settings from before the call and how many those after it.\n\
+         \x20 / last         the last bits are turned first\n\
+         \x20 / but          every bit but one, once for each bit, and then every bit\n\
+         \x20 / first 100    in steps of 100 bits, for large flashes\n\
+         sweep until-done CALL sweeps every stride. The flash is as before afterwards. Of a format that was\n\
+         cut nothing is promised, so its sweep only counts what recoveries gave. At the prompt Ctrl-C stops a\n\
+         sweep and keeps the session.",
+    ),
+    (
+        "pages",
+        "A page is erased (all ones), whole (its Zeros field agrees with its zero bits) or torn (it does not;\n\
+         a torn page belongs to nobody). A whole page belongs to a transaction, by its TxID; a page with\n\
+         TxID 0 is a lone write, a transaction by itself. A page with TxCnt above 0 is its mark. Scan order\n\
+         is the unavailable blocks, then the available ones.\n\
+         \x20 active            its identifier is one of an open change\n\
+         \x20 committed         its mark's TxCnt equals the number of its whole pages in scan order, and TxVer\n\
+         \x20                   is above the last version in the newest checkpoint: a recovery enters it\n\
+         \x20 dead              over: the newest checkpoint's map has its outcome, and a recovery does not redo\n\
+         \x20                   it. The count agrees with TxVer not above that version, or the page holds\n\
+         \x20                   though other pages of its change have left the scan\n\
+         \x20 abandoned         in scan order, and none of these: aborted or lost in a cut, or replaced after\n\
+         \x20                   other pages of its change left the scan\n\
+         \x20 outside the scan  in a checkpointed or free block: a recovery no longer looks at it, and nothing\n\
+         \x20                   on it tells whether it was committed or abandoned\n\
+         \x20 bad page          a scanned whole page that makes recover answer 4, and what is wrong with it\n\
+         \x20 holds             the map points to this page: a read gives it. Committed, dead and outside the\n\
+         \x20                   scan say nothing of it; only the map does\n\
+         In the front, map and zone pages belong to the newest complete checkpoint, to an older one, or to\n\
+         none that is complete. After a cut the state is lost; zones and 'holds' are then shown as a recovery\n\
+         will find them. Where recover refuses there is no map, and nothing is said of what holds. The zones\n\
+         are then known only if it refuses with 4, after it has passed the checkpoint.",
+    ),
+    (
+        "data",
+        "DATA is a page of 512 bytes: a text in quotes, filled up with zero bytes (\\\" \\\\ and \\n are allowed\n\
+         in it); or a seed number s, for which byte i is (31 s + 7 i + 13 (i / 256)) mod 256; or short, which\n\
+         is one byte too few and so refused.",
+    ),
+    (
+        "keys",
+        "At the prompt: left, right, Home, End, Delete, Backspace; up and down go through past lines; Tab\n\
+         completes a word of the lab. Ctrl-A and Ctrl-E as Home and End, Ctrl-U takes away all before the\n\
+         cursor, Ctrl-K all from it on, Ctrl-W the word before it, Ctrl-L clears the screen.\n\
+         Ctrl-C forgets the line and keeps the session; while a sweep runs, it stops the sweep. Ctrl-D on an\n\
+         empty line ends the lab. 'save FILE' writes what was carried out as a script.",
+    ),
+    (
+        "refusals",
+        "\x20 1 bad frame         buffers or state out of range (the lab says which); also: no state, recover first\n\
+         \x20 2 no checkpoint     recover finds no complete checkpoint (the lab says what stands in the front)\n\
+         \x20 3 bad checkpoint    its map or zones are out of range (the lab says which entry or block)\n\
+         \x20 4 bad page          a scanned whole page that the layer never writes (the lab says which, and why)\n\
+         \x20 5 bad logical page  there is no such logical page\n\
+         \x20 6 bad identifier    0 or 4294967295\n\
+         \x20 7 identifier live   active, or still on a whole page in scan order\n\
+         \x20 8 not begun         no open change has that identifier\n\
+         \x20 9 places full       eight changes are open\n\
+         \x2010 too long          64 pages are already written\n\
+         \x2011 bad length        data not 512 bytes\n\
+         \x2012 zone short        too few clean pages: checkpoint, then reclaim\n\
+         \x2013 versions spent    no number is left\n\
+         \x2014 never written     the logical page is unmapped\n\
+         \x2015 no gain           no checkpointed block has a page to spare\n\
+         \x2016 reserve short     fewer clean pages than copies due\n\
+         \x2017 busy              another command of several strides is under way",
+    ),
+    (
+        "traces",
+        "These words make worlds by hand and run the traces of the tests. The first five write past the\n\
+         layer, as no switch does, and the book does not see it. Behind '=' a line may have all that a trace\n\
+         says of a call; a difference is an error.\n\
+         Example: page 16 \"VLAN 20\" 3 0 5 0 0 0 makes page 16 a whole data page of identifier 5, LPN 3,\n\
+         without a mark.",
+    ),
+];

@@ -1,0 +1,88 @@
+//! What the lab's lines are made of: answers, pages, data and operations in words.
+use crate::{
+    data::data_words,
+    pages::{Op, Page},
+    world::World,
+};
+use bokuhira::{Answer, Call, Geometry, Refusal};
+
+pub fn answer_words(answer: Answer) -> String {
+    match answer {
+        Answer::Done => "0 done".into(),
+        Answer::More => "255 more".into(),
+        Answer::Refused(r) => refusal_words(r),
+    }
+}
+
+/// As in "4 bad page".
+pub fn refusal_words(r: Refusal) -> String {
+    format!("{} {}", r.0, r.word())
+}
+
+/// A page number with its block and its page there.
+pub fn page_name(g: Geometry, k: usize) -> String {
+    let p = g.pages as usize;
+    format!("page {k} (block {}, page {})", k / p, k % p)
+}
+
+/// The fields of a whole page in words.
+pub fn page_words(p: &Page) -> String {
+    match (p.kind, p.id, p.cnt) {
+        (1, ..) => format!("map page {} of checkpoint {}", p.lpn, p.ver),
+        (2, ..) => format!("zone page of checkpoint {}", p.ver),
+        (0, 0, _) => format!("LPN {}, lone, version {}", p.lpn, p.ver),
+        (0, id, 0) => format!("LPN {}, identifier {id}", p.lpn),
+        (0, id, 1) => format!("LPN {}, identifier {id}, mark: 1 page, version {}", p.lpn, p.ver),
+        (0, id, n) => format!("LPN {}, identifier {id}, mark: {n} pages, version {}", p.lpn, p.ver),
+        (kind, ..) => format!("LPN {}, identifier {}, kind {kind}", p.lpn, p.id),
+    }
+}
+
+/// What a call did to the flash.
+pub fn op_words(world: &World, op: Op) -> String {
+    match op {
+        Op::Nothing => String::new(),
+        Op::Program(k) => format!("{} programmed: {}", page_name(world.geometry, k), page_words(&world.pages.list[k])),
+        Op::Erase(b) => format!("block {b} erased"),
+    }
+}
+
+/// The line that says what a call answered and did.
+pub fn call_line(text: &str, world: &World, call: &Call, answer: Answer, op: Op) -> String {
+    let mut parts = vec![format!("{text}: {}", answer_words(answer))];
+    match (call, answer) {
+        (Call::Read(lpn), Answer::Done) => parts.push(data_words(world.data(world.store.map[*lpn as usize] as usize))),
+        (Call::Write { .. }, Answer::Done) => parts.push("held".into()),
+        (Call::Recover(_), Answer::Done) => {
+            if let Some(s) = world.state() {
+                parts.push(format!(
+                    "checkpoint {}, last version {}, {} mapped",
+                    s.checkpoint,
+                    s.version,
+                    plural(world.mapped_count(), "logical page")
+                ));
+            }
+        }
+        (_, Answer::More) if op == Op::Nothing => parts.push("a block erased that was so before".into()),
+        (_, Answer::Refused(r)) => parts.extend(world.reason(call, r)),
+        _ => (),
+    }
+    let done = op_words(world, op);
+    if !done.is_empty() {
+        parts.push(done);
+    }
+    parts.join("; ")
+}
+
+/// A number of things: one has no s.
+pub fn plural(n: usize, one: &str) -> String {
+    format!("{n} {one}{}", if n == 1 { "" } else { "s" })
+}
+
+/// Numbers one after the other, or none.
+pub fn numbers<T: ToString>(list: &[T]) -> String {
+    if list.is_empty() {
+        return "none".into();
+    }
+    list.iter().map(T::to_string).collect::<Vec<_>>().join(" ")
+}
