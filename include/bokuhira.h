@@ -13,8 +13,9 @@
  *
  * Values are free: whatever the buffers hold and however long they are, a call answers as document 01 (docs/PAPERS.md) says, and lengths
  * that do not fit are refused with 1. Pointers are not checked: each must point to as many elements as its length says, must not be null
- * (not even for length 0), and a map must be aligned for 16 bits. The buffers of one call must not overlap one another, nor *at of
- * bokuhira_read. Besides them a call needs stack: BOKUHIRA_STACK.
+ * (not even for length 0), and a map must be aligned for 16 bits. The buffers of one call, `data` of a write among them, must not
+ * overlap one another, nor *at of bokuhira_read: what a read found is copied before it is written. Besides them a call needs stack:
+ * BOKUHIRA_STACK.
  *
  * Answers. Each function answers with one number: 0 done; 255 more (one stride of a format, a checkpoint or a reclaim is done: call
  * again); else a refusal's, which changes no byte of any buffer. One call programs at most one page or erases at most one block.
@@ -26,7 +27,8 @@
  *   front       blocks 0 and 1, which take the checkpoints. The others are data blocks.
  *   zone        each data block is in one: available (up to three, which take the next pages), unavailable (full, and a recovery reads
  *               its pages), free (erased), or checkpointed (in no list: what it still holds stands in the checkpoint's map).
- *   scan order  the unavailable blocks, then the available ones, each from page 0: what a recovery reads besides the front.
+ *   scan order  the unavailable blocks, then the available ones, in the order of their lists, each from page 0: what a recovery reads
+ *               besides the front.
  *   change      an open transaction: pages that are saved together, all or none, under an identifier that the caller chooses. It has
  *               one of eight places, and its newest page is held in memory, until the next write or the commit programs it.
  *   stride      what one call does of a command that takes several.
@@ -34,10 +36,10 @@
  * Threads. The functions share nothing: calls on different buffers may run at the same time. On the same buffers bokuhira_read may run
  * at the same time as itself, each call with its own *at. Every other call on them must be alone: with a lock, or from one thread.
  *
- * Power-up. The first call on a device is a recover or a format, and these two take any BOKUHIRA_STATE bytes, such as the RAM has after
- * a power cut: bytes that encode no state count as a fresh state. Every other function refuses such bytes with 1. Recover makes map and
- * state from the array; it does not look at what they were. A format does look: it goes on with a format of the same geometry that the
- * state says is under way. To begin one for certain, hand in a state of zeros.
+ * Power-up. The first call on a device is a recover or a format. Recover takes any BOKUHIRA_STATE bytes, such as the RAM has after a
+ * power cut: it makes map and state from the array and does not look at what they were. Format takes any too and begins with its first
+ * stride, but for bytes that say a format of this geometry is under way: it goes on with that, or refuses with 1 where that is out of
+ * range. To begin for certain, hand in zeros. Every other function refuses bytes that encode no state with 1.
  */
 #ifndef BOKUHIRA_H
 #define BOKUHIRA_H
@@ -62,9 +64,9 @@ extern "C" {
 #define BOKUHIRA_AT_BLOCKS 0              /* 2 bytes */
 #define BOKUHIRA_AT_PAGES 2               /* 2 bytes: pages a block */
 #define BOKUHIRA_AT_LOGICAL 4             /* 2 bytes: logical pages */
-#define BOKUHIRA_AT_AVAILABLE 6           /* 3 bytes: the available blocks, in zone order */
+#define BOKUHIRA_AT_AVAILABLE 6           /* 3 bytes: the available blocks, in the order in which they are filled */
 #define BOKUHIRA_AT_AVAILABLE_COUNT 9     /* 1 byte: how many of them count */
-#define BOKUHIRA_AT_UNAVAILABLE 10        /* 126 bytes: the unavailable blocks, in zone order */
+#define BOKUHIRA_AT_UNAVAILABLE 10        /* 126 bytes: the unavailable blocks, in the order in which they were filled */
 #define BOKUHIRA_AT_UNAVAILABLE_COUNT 136 /* 1 byte */
 #define BOKUHIRA_AT_FREE 137              /* 126 bytes: the free blocks, ascending */
 #define BOKUHIRA_AT_FREE_COUNT 263        /* 1 byte */
@@ -134,8 +136,11 @@ extern "C" {
                                 logical page or data page number out of range; pointer, front place or stride number out of range;
                                 the next front page of a stride under way not erased */
 #define BOKUHIRA_NO_CHECKPOINT 2
-#define BOKUHIRA_BAD_CHECKPOINT 3 /* or say something twice */
-#define BOKUHIRA_BAD_PAGE 4
+#define BOKUHIRA_BAD_CHECKPOINT 3 /* map: an entry other than 0xFFFF outside the data blocks or repeated, or one past the logical pages
+                                     that is not 0xFFFF; zones: more than blocks - 2 in all or three available, a block or the pointer
+                                     outside the data blocks, a block repeated, free ones not ascending, the rest of the page not 0 */
+#define BOKUHIRA_BAD_PAGE 4 /* Kind or Reserved not 0; LPN too high; only one of TxCnt and TxVer 0; TxID or TxVer 0xFFFFFFFF; TxID 0 with
+                               TxCnt not 1; a second mark (TxCnt not 0) of one nonzero TxID; a TxVer above 0 that is repeated */
 #define BOKUHIRA_BAD_LOGICAL_PAGE 5
 #define BOKUHIRA_BAD_IDENTIFIER 6
 #define BOKUHIRA_IDENTIFIER_LIVE 7 /* a closed change's pages are in scan order until a checkpoint has made their blocks checkpointed */
@@ -194,7 +199,7 @@ static inline const char *bokuhira_text(uint8_t answer)
     case BOKUHIRA_PLACES_FULL: return "eight changes are open; commit or abort one";
     case BOKUHIRA_TOO_LONG: return "the change has as many pages as a change may have";
     case BOKUHIRA_BAD_LENGTH: return "the data are not 512 bytes";
-    case BOKUHIRA_ZONE_SHORT: return "too few clean pages are available; checkpoint, then reclaim";
+    case BOKUHIRA_ZONE_SHORT: return "too few clean pages are available; checkpoint, and if that is not enough reclaim and checkpoint again";
     case BOKUHIRA_VERSIONS_SPENT: return "no version or checkpoint number is left";
     case BOKUHIRA_NEVER_WRITTEN: return "the logical page was never written";
     case BOKUHIRA_NO_GAIN: return "no checkpointed block has an unmapped page";
@@ -216,7 +221,8 @@ static inline const char *bokuhira_text(uint8_t answer)
 
 /*
  * One stride of a format: the device becomes one of this geometry, with every logical page unmapped. Call it with the same arguments
- * until it answers done; another geometry starts anew. It goes on from the state alone: the array's old content is erased.
+ * until it answers done; another geometry starts anew. It goes on from the state alone: the array's old content is erased. Strides:
+ * one for each block, each map page and the zone page.
  * Changes array, map, state. Refuses: 1 (for geometry, lengths and a format of this geometry under way that is out of range).
  */
 BOKUHIRA_CHECKED
@@ -283,7 +289,8 @@ uint8_t bokuhira_read(const uint8_t *array, size_t array_len, const uint16_t *ma
 
 /*
  * One stride of a checkpoint: map and zone lists are written to the front, and full blocks leave the available list, which is filled
- * again from the free ones. Call it until it answers done.
+ * again from the free ones. Call it until it answers done. Strides: one for each map page and the zone page, and one before them where
+ * the other front block is erased first.
  * Changes array, state. Refuses: 1, 17, 13.
  */
 BOKUHIRA_CHECKED
@@ -291,8 +298,8 @@ uint8_t bokuhira_checkpoint(uint8_t *array, size_t array_len, const uint16_t *ma
                             uint8_t *state, size_t state_len);
 
 /*
- * One stride of a reclaim: the checkpointed block with fewest mapped pages is freed, its mapped pages being copied first, one a stride.
- * Call it until it answers done.
+ * One stride of a reclaim: the checkpointed block with fewest mapped pages is freed, its mapped pages being copied first. Call it until
+ * it answers done. Strides: one for each copy and one for the erase.
  * Changes array, map, state. Refuses: 1, 17, 15, 13, 16.
  */
 BOKUHIRA_CHECKED

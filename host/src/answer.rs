@@ -14,7 +14,7 @@ const REFUSALS: [(&str, &str); 17] = [
     ("places full", "eight changes are open; commit or abort one"),
     ("too long", "the change has as many pages as a change may have"),
     ("bad length", "the data are not 512 bytes"),
-    ("zone short", "too few clean pages are available; checkpoint, then reclaim"),
+    ("zone short", "too few clean pages are available; checkpoint, and if that is not enough reclaim and checkpoint again"),
     ("versions spent", "no version or checkpoint number is left"),
     ("never written", "the logical page was never written"),
     ("no gain", "no checkpointed block has an unmapped page"),
@@ -25,8 +25,8 @@ const REFUSALS: [(&str, &str); 17] = [
 /// One refusal, by document 01's number. It is shown as its number, its word and its line:
 ///
 /// ```
-/// let refusal = bokuhira::Refusal(12);
-/// assert_eq!(refusal.to_string(), "12 zone short: too few clean pages are available; checkpoint, then reclaim");
+/// let refusal = bokuhira::Refusal(9);
+/// assert_eq!(refusal.to_string(), "9 places full: eight changes are open; commit or abort one");
 /// ```
 #[derive(Clone, Copy, PartialEq, Eq, Debug)]
 pub struct Refusal(pub u8);
