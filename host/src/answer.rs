@@ -57,7 +57,24 @@ impl fmt::Display for Refusal {
 
 impl std::error::Error for Refusal {}
 
-/// What a call answers.
+/// What a call answers. It must be looked at; this does not compile:
+///
+/// ```compile_fail
+/// #![deny(unused_must_use)]
+/// let mut store = bokuhira::Store::blank(bokuhira::Geometry::new(8, 8, 16));
+/// store.begin(7);
+/// ```
+///
+/// A refusal is an error that any function may hand on:
+///
+/// ```
+/// fn begun() -> Result<(), Box<dyn std::error::Error>> {
+///     let mut store = bokuhira::Store::formatted(bokuhira::Geometry::new(8, 8, 16))?;
+///     store.begin(0).more()?;
+///     Ok(())
+/// }
+/// assert_eq!(begun().unwrap_err().to_string(), "6 bad identifier: 0 and 4294967295 are no identifiers");
+/// ```
 #[must_use = "a refused call changed nothing: an ignored answer is a lost setting"]
 #[derive(Clone, Copy, PartialEq, Eq, Debug)]
 pub enum Answer {
