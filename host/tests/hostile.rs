@@ -469,8 +469,8 @@ fn any_input_gives_the_same_on_both_layers() {
     }
 }
 
-/// After power-up anything stands in the state's bytes. Recover and format take any of them and give the same, on both layers; the other
-/// eight commands refuse those that encode no state.
+/// After power-up anything stands in the state's bytes. Recover takes any of them and gives the same, on both layers; so does format, but
+/// for bytes that say a format of this geometry is under way. The other eight commands refuse those that encode no state.
 #[test]
 fn any_state_will_do_at_power_up() {
     let g = Geometry::new(8, 8, 16);
@@ -479,11 +479,15 @@ fn any_state_will_do_at_power_up() {
     assert_eq!(Layer::Proved.call(&mut live, &Call::Lone { lpn: 3, data: vec![7; DATA] }), 0);
     let mut recovered = live.clone();
     assert_eq!(Layer::Proved.call(&mut recovered, &Call::Recover(g)), 0);
-    let mut strange = 0;
-    for _ in 0..500 {
-        let state = rng.bytes(STATE);
+    let mut begun = Store { state: vec![0; STATE], ..live.clone() };
+    assert_eq!(Layer::Proved.call(&mut begun, &Call::Format(g)), 255);
+    assert_eq!(State::decode(&begun.state).map(|s| s.work), Some(Work { kind: Kind::Format, stride: 1 }));
+    let (mut strange, mut known) = (0, 0);
+    for _ in 0..1000 {
+        let state = lost_state(&mut rng);
         let dark = Store { state, map: vec![rng.next() as u16; 16], ..live.clone() };
         strange += State::decode(&dark.state).is_none() as usize;
+        known += State::decode(&dark.state).is_some_and(|s| s.work.kind == Kind::Format) as usize;
         let mut maker = Maker::new(rng.next());
         for layer in LAYERS {
             let mut w = dark.clone();
@@ -491,7 +495,7 @@ fn any_state_will_do_at_power_up() {
             assert!(w == recovered, "{layer:?}: a recover that hangs on the state: {}", told(&dark));
             let mut w = dark.clone();
             assert_eq!(layer.call(&mut w, &Call::Format(g)), 255);
-            assert_eq!(State::decode(&w.state).map(|s| s.work), Some(Work { kind: Kind::Format, stride: 1 }), "{layer:?}: a format's first stride");
+            assert!(w == begun, "{layer:?}: a format's first stride that hangs on the state: {}", told(&dark));
             for kind in (2..10).filter(|_| State::decode(&dark.state).is_none()) {
                 let call = maker.call_of(&dark, g, kind);
                 let mut w = dark.clone();
@@ -500,7 +504,20 @@ fn any_state_will_do_at_power_up() {
             }
         }
     }
-    assert!(strange > 400, "{strange} of 500 encode no state");
+    assert!(strange > 400 && known > 50, "{strange} of 1000 encode no state, {known} a format of another geometry");
+
+    // a format of this geometry: gone on with, or out of range, where stride 9 is to program a page that is not erased
+    for (stride, answer) in [(0, 1), (3, 255), (9, 1), (200, 1)] {
+        let mut state = State::decode(&begun.state).expect("a state");
+        state.work.stride = stride;
+        let dark = Store { state: state.encode(), ..live.clone() };
+        for layer in LAYERS {
+            let mut w = dark.clone();
+            assert_eq!(layer.call(&mut w, &Call::Format(g)), answer, "{layer:?}: a format with {stride} strides done");
+            let next = if answer == 1 { stride } else { stride + 1 };
+            assert_eq!(State::decode(&w.state).map(|s| s.work.stride), Some(next), "{layer:?}");
+        }
+    }
 }
 
 /// What a message tells of a world.
