@@ -141,6 +141,21 @@ static void no_length(size_t state_len)
     CHECK(memcmp(state, zero, sizeof state) == 0);
 }
 
+static void put_field(size_t at, uint32_t n)
+{
+    int i;
+    for (i = 0; i < 4; i++)
+        d.state[at + (size_t)i] = (uint8_t)(n >> 8 * i);
+}
+
+static void format(void)
+{
+    uint8_t answer;
+    while ((answer = bokuhira_format(LENT, BLOCKS, PAGES, LOGICAL)) == BOKUHIRA_MORE)
+        ;
+    CHECK(answer == BOKUHIRA_DONE);
+}
+
 /* Strides until done; how many. */
 static int checkpoint(void)
 {
@@ -276,6 +291,42 @@ static void *session(void *nothing)
     CHECK(d.state[BOKUHIRA_AT_UNAVAILABLE_COUNT] > 0);
     CHECK(d.state[BOKUHIRA_AT_UNAVAILABLE] == field(place + BOKUHIRA_PLACE_PAGES, 2) / PAGES);
     CHECK(put(11, 7, 0x77) == BOKUHIRA_DONE && commit(11) == BOKUHIRA_DONE && reads(7, 0x77));
+
+    /* no free block: after zone short a checkpoint is not enough, nor is a reclaim before the next checkpoint */
+    do {
+        for (n = 0; (i = lone((uint16_t)(n % LOGICAL), 0x11)) == BOKUHIRA_DONE; n++)
+            ;
+        CHECK(i == BOKUHIRA_ZONE_SHORT && checkpoint() >= 2);
+    } while (lone(0, 0x11) == BOKUHIRA_DONE);
+    while ((i = bokuhira_reclaim(LENT)) == BOKUHIRA_MORE)
+        ;
+    CHECK(i == BOKUHIRA_DONE);
+    REFUSED(BOKUHIRA_ZONE_SHORT, lone(0, 0x12));
+    CHECK(checkpoint() >= 2 && lone(0, 0x12) == BOKUHIRA_DONE);
+
+    /* no gain; a save alone can end it */
+    format();
+    for (i = 0; i < LOGICAL; i++)
+        CHECK(lone((uint16_t)i, 0x22) == BOKUHIRA_DONE);
+    CHECK(checkpoint() >= 2);
+    REFUSED(BOKUHIRA_NO_GAIN, bokuhira_reclaim(LENT));
+    CHECK(lone(3, 0x33) == BOKUHIRA_DONE);
+    old = d;
+    CHECK(bokuhira_reclaim(LENT) == BOKUHIRA_MORE);
+
+    /* versions spent: a checkpoint or a reclaim meets it before a save does */
+    d = old;
+    put_field(BOKUHIRA_AT_CHECKPOINT, 0xFFFFFFFE);
+    REFUSED(BOKUHIRA_VERSIONS_SPENT, bokuhira_checkpoint(LENT));
+    CHECK(lone(4, 0x44) == BOKUHIRA_DONE);
+    d = old;
+    put_field(BOKUHIRA_AT_VERSION, 0xFFFFFFFE - 1);
+    REFUSED(BOKUHIRA_VERSIONS_SPENT, bokuhira_reclaim(LENT));
+    CHECK(lone(4, 0x44) == BOKUHIRA_DONE);
+    REFUSED(BOKUHIRA_VERSIONS_SPENT, lone(4, 0x45));
+    CHECK(begin(12) == BOKUHIRA_DONE && put(12, 4, 0x46) == BOKUHIRA_DONE);
+    REFUSED(BOKUHIRA_VERSIONS_SPENT, commit(12));
+    CHECK(reads(4, 0x44));
 
     return nothing;
 }
