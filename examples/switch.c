@@ -1,5 +1,5 @@
 /*
- * How a switch keeps its settings: power-up, settings saved together, housekeeping in idle time, a power cut. docs/FIRMWARE.md explains
+ * How a switch keeps its settings: power-up, settings saved together, housekeeping in idle time, power cuts. docs/FIRMWARE.md explains
  * it. The flash is an array in memory here. What is not expected is told, and ends the program with status 1.
  */
 #include <stdio.h>
@@ -80,12 +80,20 @@ static uint8_t finish(uint8_t kind)
     return answer;
 }
 
-/* Power-up, whatever the RAM holds. A new chip, 0xFF throughout, is formatted. */
+/* Whether nothing was ever saved: all but the first pages, those of a format's checkpoint, reads 0xFF. */
+static int never_used(void)
+{
+    const size_t from = (BOKUHIRA_MAP_PAGES(LOGICAL) + 1) * BOKUHIRA_PAGE;
+
+    return flash[from] == 0xFF && memcmp(flash + from, flash + from + 1, sizeof flash - from - 1) == 0;
+}
+
+/* Power-up, whatever the RAM holds. A new chip is formatted. */
 static uint8_t power_up(void)
 {
     uint8_t answer = bokuhira_recover(LENT, BLOCKS, PAGES, LOGICAL);
 
-    if (answer == BOKUHIRA_NO_CHECKPOINT && flash[0] == 0xFF && memcmp(flash, flash + 1, sizeof flash - 1) == 0) {
+    if (answer == BOKUHIRA_NO_CHECKPOINT && never_used()) {
         printf("a new chip is formatted\n");
         memset(state, 0, sizeof state); /* so that it begins with its first stride */
         do
@@ -189,8 +197,13 @@ int main(void)
     static const uint8_t lost[BOKUHIRA_DATA] = "half a change";
     int i;
 
-    memset(flash, 0xFF, sizeof flash);
-    must("power-up", power_up());
+    memset(flash, 0xFF, sizeof flash); /* a new chip */
+    for (i = 0; i <= BLOCKS; i++) {    /* power is cut in its format, when one page is programmed */
+        uint8_t answer = bokuhira_format(LENT, BLOCKS, PAGES, LOGICAL);
+        if (answer != BOKUHIRA_MORE)
+            must("format", answer);
+    }
+    cut();
     must("save", save(factory, 3));
     printf("saved as change %u\n", (unsigned)identifier);
 

@@ -1,4 +1,4 @@
-/* Ten answers that nobody looks at: a compiler that can warn does so ten times. */
+/* Each function once, with an answer that nobody looks at: a compiler that can warn does so each time. */
 #include "bokuhira.h"
 
 #define LENT array, 0, map, 0, hold, 0, state, 0
