@@ -2,8 +2,9 @@
 //! columns, pages are cells; every colour has a letter or a pattern beside it, so that a print in black and white can be read.
 use crate::{
     history::{Cell, History, Step},
-    look::{state_line, zone_css, Words, ERASED, KINDS},
+    look::{state_line, zone_css, Look, Words, KINDS},
     view::Zone,
+    words::geometry_words,
     world::World,
 };
 use layout::{fill, short_words, width_of, Form, Head, Layout};
@@ -23,7 +24,7 @@ const CONTROLS: &str = "\
 <button id=\"list\" title=\"show or hide the list of steps (S)\">steps</button><button id=\"key\" title=\"show or hide the legend (L)\">legend</button>";
 const CAPTION: &str = "\
 <div id=\"caption\"><span id=\"text\"></span><span id=\"said\"></span></div><div id=\"state\"></div>
-<div id=\"tell\">Point at a page to read it; click to keep it and to mark the pages of its change. Keys: ← → Home End for steps, S list of steps, L legend, + − 0 size.</div>";
+<div id=\"tell\">Point at a page to read it; click to keep it and to mark the pages of its identifier. Keys: ← → Home End for steps, S list of steps, L legend, + − 0 size.</div>";
 
 /// Text inside markup.
 fn escaped(text: &str) -> String {
@@ -33,9 +34,10 @@ fn escaped(text: &str) -> String {
 /// A page in its place. What it tells may hold anything, so that field is filled last.
 fn cell(layout: &Layout, form: &Form, template: &str, k: usize, cell: Cell, words: &Words) -> String {
     let (x, y) = layout.at(k);
-    let kind = &KINDS[cell.kind as usize];
+    let kind = &KINDS[cell.look as usize];
     let name = format!("page {k} (block {}, page {})", k / layout.pages(), k % layout.pages());
-    let tell = escaped(&format!("{name}: {} - {}", words.tell, kind.words));
+    let dash = if words.tell.is_empty() { "" } else { " - " };
+    let tell = escaped(&format!("{name}: {}{dash}{}", words.tell, kind.words));
     let sizes: Vec<String> = layout.sizes(form, words).iter().map(f64::to_string).collect();
     let numbers = [x.to_string(), y.to_string(), k.to_string(), (cell.edges >> 2).to_string(), (cell.edges & 3).to_string()];
     let mut fields = vec![("css", kind.css), ("letter", kind.letter)];
@@ -115,12 +117,12 @@ fn ticks(layout: &Layout) -> String {
 fn legend(layout: &Layout, history: &History) -> Vec<(String, String)> {
     let mut items = Vec::new();
     let mut put = |sample: String, words: &str| items.push((sample, words.to_string()));
-    let used: HashSet<u8> = history.steps.iter().flat_map(|s| &s.runs).map(|r| r.cell.kind).collect();
-    for kind in (1..KINDS.len()).filter(|i| used.contains(&(*i as u8))).map(|i| &KINDS[i]) {
+    let used: HashSet<Look> = history.steps.iter().flat_map(|s| &s.runs).map(|r| r.cell.look).collect();
+    for kind in KINDS.iter().filter(|kind| kind.look != Look::Erased && used.contains(&kind.look)) {
         let letter = format!("<text class=\"l\" x=\"14\" y=\"13\" font-size=\"12\" text-anchor=\"middle\">{}</text>", kind.letter);
         put(format!("<g class=\"cell {}\"><rect class=\"r\" width=\"28\" height=\"16\"/>{letter}</g>", kind.css), kind.words);
     }
-    put("<rect width=\"28\" height=\"16\" fill=\"#fff\" stroke=\"#bbb\"/>".into(), KINDS[ERASED as usize].words);
+    put("<rect width=\"28\" height=\"16\" fill=\"#fff\" stroke=\"#bbb\"/>".into(), KINDS[Look::Erased as usize].words);
     for zone in Zone::ALL.into_iter().filter(|z| *z != Zone::Unknown) {
         let (css, letters) = zone_css(zone);
         let letters = if layout.short() { letters } else { "" };
@@ -167,15 +169,32 @@ fn picture(layout: &Layout, form: usize, (width, above, height): (f64, f64, f64)
     format!("<svg xmlns=\"http://www.w3.org/2000/svg\" id=\"flash\" class=\"{low} f{form}\" viewBox=\"{size}\">\n{drawn}</svg>\n")
 }
 
-/// The flash on a sheet: a line above it and the legend's items below, both of one size on the sheet however wide the flash is.
-fn sheet(layout: &Layout, form: usize, line: &str, flash: &str, items: &[(String, String)]) -> String {
+/// A text in lines of at most this width, in units of their size, broken only behind `; `.
+fn broken(text: &str, most: f64) -> Vec<String> {
+    let mut lines: Vec<String> = Vec::new();
+    for part in text.split_inclusive("; ") {
+        match lines.last_mut() {
+            Some(line) if width_of(line) + width_of(part.trim_end()) <= most => *line += part,
+            _ => lines.push(part.into()),
+        }
+    }
+    lines
+}
+
+/// The flash on a sheet: a text above it and the legend's items below, both of one size on the sheet however wide the flash is.
+fn sheet(layout: &Layout, form: usize, text: &str, flash: &str, items: &[(String, String)]) -> String {
     let width = layout.width().max(900.0);
     let scale = width / 1100.0;
-    let (columns, pitch, above) = (3, 360.0, 24.0 * scale);
+    let (columns, pitch, row, size) = (3, 360.0, 18.0 * scale, 13.0 * scale);
+    let lines = broken(text, (width - 24.0) / size);
+    let above = row * lines.len() as f64 + 6.0 * scale;
     let height = layout.bottom() + scale * (30.0 + 20.0 * items.len().div_ceil(columns) as f64);
-    let size = (above / 1.8).min((width - 24.0) / width_of(line));
     let mut text = format!("<rect y=\"{}\" width=\"{width}\" height=\"{}\" fill=\"#fff\"/>", -above, height + above);
-    text += &format!("<text x=\"12\" y=\"{}\" font-size=\"{size:.1}\">{}</text>{flash}", -above / 3.0, escaped(line));
+    for (i, line) in lines.iter().enumerate() {
+        let (y, size) = (row * (i as f64 + 0.9) - above, size.min((width - 24.0) / width_of(line)));
+        text += &format!("<text x=\"12\" y=\"{y:.1}\" font-size=\"{size:.1}\">{}</text>", escaped(line.trim_end()));
+    }
+    text += flash;
     text += &format!("<g transform=\"translate(0,{}) scale({scale})\">", layout.bottom() + 14.0);
     for (spot, (sample, words)) in items.iter().enumerate() {
         let (x, y) = (12.0 + (spot % columns) as f64 * pitch, 6.0 + (spot / columns) as f64 * 20.0);
@@ -195,7 +214,7 @@ pub fn svg(world: &World) -> String {
     let paper = layout.on_paper(&forms);
     let template = layout.cell_markup(&forms[paper]);
     let mut cells = String::new();
-    for run in step.runs.iter().filter(|r| r.cell.kind != ERASED) {
+    for run in step.runs.iter().filter(|r| r.cell.look != Look::Erased) {
         for k in run.first..run.first + run.pages {
             cells += &cell(&layout, &forms[paper], &template, k, run.cell, &history.words[run.cell.words as usize]);
         }
@@ -225,7 +244,7 @@ fn list(items: impl Iterator<Item = String>) -> String {
 }
 
 fn step_json(step: &Step) -> String {
-    let runs = list(step.runs.iter().map(|r| format!("[{},{},{},{},{}]", r.first, r.pages, r.cell.kind, r.cell.edges, r.cell.words)));
+    let runs = list(step.runs.iter().map(|r| format!("[{},{},{},{},{}]", r.first, r.pages, r.cell.look as u8, r.cell.edges, r.cell.words)));
     let zones = list(step.zones.iter().map(|(b, css, words)| format!("[{b},\"{css}\",{}]", json(words))));
     let next = step.next.map_or(-1, |k| k as i64);
     format!(
@@ -272,11 +291,43 @@ pub fn html(history: &History) -> Result<String, String> {
     let picture = picture(&layout, 0, (layout.width(), 0.0, layout.height()), &flash(&layout, &zones, "", None, 2));
     let item = |(sample, words)| format!("<li><svg viewBox=\"-1 -1 30 18\">{sample}</svg>{words}</li>\n");
     let legend: String = legend(&layout, history).into_iter().map(item).collect();
-    let title = format!("The flash, step by step: {} blocks of {} pages, {} logical pages", g.blocks, g.pages, g.logical);
+    let title = format!("The flash, step by step: {}", geometry_words(g));
     Ok(format!(
         "<!DOCTYPE html>\n<html lang=\"en\"><head><meta charset=\"utf-8\"><meta name=\"viewport\" content=\"width=device-width\"><title>{title}</title>\n\
          <style>{PAGE_STYLE}</style></head>\n<body><header><b id=\"title\">{title}</b><div id=\"bar\">{CONTROLS}</div>\n{CAPTION}</header>\n\
          <main><div id=\"picture\">{picture}</div><ol id=\"steps\"></ol></main>\n<ul id=\"legend\">{legend}</ul>\n\
          <script>{data}\n{PAGE_SCRIPT}</script></body></html>\n"
     ))
+}
+
+#[cfg(test)]
+mod tests {
+    use super::*;
+    use crate::session::Session;
+
+    #[test]
+    fn a_long_text_is_broken_behind_its_parts() {
+        assert_eq!(broken("short", 9.0), ["short"]);
+        assert_eq!(broken("one; two; three", 7.0), ["one; two; ", "three"]);
+        assert_eq!(broken("a part that is too long; b", 3.0), ["a part that is too long; ", "b"]);
+    }
+
+    #[test]
+    fn pages_that_hold_all_the_same_are_drawn_and_explained() {
+        let mut session = Session::default();
+        let erased = format!("raw 18 {}", "FF".repeat(528));
+        let lines = ["format-to-the-end 8 8 16", "lone 1 1", "lone 2 2", "lone 3 3", "lone 4 4", "byte 8448 0", "page 17 5 9 1 0 2 0 0", &erased];
+        for line in lines {
+            assert!(session.line(line, &mut Vec::new()).is_ok());
+        }
+        let svg = svg(session.world.as_ref().unwrap());
+        let told =
+            ["page 16 (block 2, page 0): torn; Zeros ", "page 17 (block 2, page 1): whole; LPN 9", "page 18 (block 2, page 2): erased, and yet"];
+        let looks = [Look::TornHolds, Look::HoldsAnother, Look::ErasedHolds];
+        for (told, look) in told.iter().zip(looks) {
+            let kind = &KINDS[look as usize];
+            assert!(svg.contains(told) && svg.contains(&format!("{}</title>", kind.words)) && svg.contains(&format!(">{}</text></g>", kind.words)));
+            assert!(html(&session.history).unwrap().contains(&format!("</svg>{}</li>", kind.words)));
+        }
+    }
 }

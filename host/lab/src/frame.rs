@@ -6,8 +6,11 @@ use crate::{
 };
 use bokuhira::{Call, Geometry, Kind, State, Store, PAGE, STATE};
 
-/// Where a state's bytes count the blocks of each zone, and the pages of each place.
+/// Where a state's bytes count the blocks of each zone and the pages of each place, and where the work under way stands: offsets of
+/// include/bokuhira.h.
 const COUNTS: [usize; 3] = [9, 136, 263];
+const WORK: usize = 275;
+const STRIDE: usize = 276;
 const PLACES: usize = 278;
 const PLACE: usize = 261;
 const PLACE_COUNT: usize = 4;
@@ -21,12 +24,12 @@ pub fn why(store: &Store, call: &Call) -> Option<String> {
         (Call::Recover(g), _) => ranges::lent(*g, store),
         (Call::Format(g), state) => ranges::lent(*g, store).or_else(|| own_format(*g, store, &state?)),
         (_, Some(state)) => frame(store, &state),
-        (_, None) => Some(format!("bytes that are no state: work of kind {} with stride number {}", store.state[275], stride(store))),
+        (_, None) => Some(format!("bytes that are no state: work of kind {} with stride number {}", store.state[WORK], stride(store))),
     }
 }
 
 fn stride(store: &Store) -> u16 {
-    u16::from_le_bytes([store.state[276], store.state[277]])
+    u16::from_le_bytes([store.state[STRIDE], store.state[STRIDE + 1]])
 }
 
 /// What every call but format and recover looks at.
@@ -146,7 +149,7 @@ mod tests {
                 "zone lists: # available, # unavailable and # free blocks",
                 "zone lists: # available blocks: at most three",
                 "zone lists: available block #",
-                "zone lists: unavailable block # is listed before",
+                "zone lists: unavailable block # is listed twice",
                 "zone lists: free blocks",
                 "zone lists: pointer #",
                 "place #: # pages: at most # are allowed",

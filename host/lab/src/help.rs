@@ -76,7 +76,7 @@ const GROUPS: [(&str, &[Word]); 4] = [
             word(
                 "import",
                 "import FILE [BLOCKS PAGES LOGICAL]",
-                "a dump as the flash; without numbers the file must begin with the three lines of report; given numbers count, whatever these say",
+                "a dump as the flash; without numbers the file must begin with the three lines of report; numbers given here are taken instead of those lines",
             ),
             word("export", "export FILE [raw]", "writes the flash, with the three lines of report before it unless raw"),
             word("quit", "quit", "ends the lab; at the prompt it first tells, once, of lines that are not saved"),

@@ -1,26 +1,28 @@
 //! The steps of a session as a page shows them: for each, only what looks other than before.
 use crate::{
-    look::{edges, kind_of, state_line, words, zone_css, Words, ERASED},
+    look::{edges, look_of, state_line, words, zone_css, Look, Words},
     world::World,
 };
 use bokuhira::Geometry;
 use std::collections::HashMap;
 
-/// How a page looks: the index of its kind, its edges, and its words.
+/// How a page looks: its kind, its edges, and its words.
 #[derive(Clone, Copy, PartialEq, Eq)]
 pub struct Cell {
-    pub kind: u8,
+    pub look: Look,
     pub edges: u8,
     pub words: u32,
 }
 
 /// A run of pages that look alike from now on.
+#[derive(Clone)]
 pub struct Run {
     pub first: usize,
     pub pages: usize,
     pub cell: Cell,
 }
 
+#[derive(Clone)]
 pub struct Step {
     pub text: String,
     pub said: String,
@@ -33,7 +35,7 @@ pub struct Step {
 }
 
 /// The steps since the flash had this geometry.
-#[derive(Default)]
+#[derive(Clone, Default)]
 pub struct History {
     pub geometry: Option<Geometry>,
     pub steps: Vec<Step>,
@@ -47,7 +49,7 @@ pub struct History {
 /// Where the zones are not known: far out of the picture.
 const NO_POINTER: u8 = u8::MAX;
 
-const CLEAN: Cell = Cell { kind: ERASED, edges: 0, words: 0 };
+const CLEAN: Cell = Cell { look: Look::Erased, edges: 0, words: 0 };
 
 impl History {
     /// Adds a step: this world, after this command, which said that. A flash of another size starts the history anew.
@@ -70,7 +72,7 @@ impl History {
         for (k, page) in world.pages.list.iter().enumerate() {
             let same = self.stamps[k] == world.pages.stamps[k];
             let cell = Cell {
-                kind: kind_of(page, view.fates[k], view.holds(k)),
+                look: look_of(page, view.fates[k], view.holds[k]),
                 edges: edges(&view, &world.pages.list, k),
                 words: if same { self.cells[k].words } else { self.word(words(world, k)) },
             };
@@ -134,9 +136,9 @@ mod tests {
         let mut anew = History::default();
         anew.record(session.world.as_ref().unwrap(), "", "");
         for (k, cell) in cells.iter().enumerate() {
-            assert_eq!((cell.kind, cell.edges), (anew.cells[k].kind, anew.cells[k].edges), "page {k}");
+            assert_eq!((cell.look, cell.edges), (anew.cells[k].look, anew.cells[k].edges), "page {k}");
             assert!(history.words[cell.words as usize] == anew.words[anew.cells[k].words as usize], "page {k}");
         }
-        assert!(cells.iter().filter(|c| c.kind != ERASED).count() == 9);
+        assert!(cells.iter().filter(|c| c.look != Look::Erased).count() == 9);
     }
 }

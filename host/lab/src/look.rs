@@ -2,77 +2,118 @@
 use crate::{
     data::data_words,
     pages::{Class, Page},
-    view::{Fate, View, Zone},
+    view::{Fate, Hold, View, Zone},
+    words::plural,
     world::World,
 };
 use bokuhira::{Call, Refusal};
 
+/// The kinds of cells, in the order of `KINDS`.
+#[derive(Clone, Copy, PartialEq, Eq, Hash, Debug)]
+pub enum Look {
+    Erased,
+    Active,
+    CommittedHolds,
+    Committed,
+    DeadHolds,
+    Dead,
+    Abandoned,
+    Torn,
+    Bad,
+    NewestMap,
+    NewestZone,
+    OlderMap,
+    OlderZone,
+    PartMap,
+    PartZone,
+    BadHolds,
+    Unknown,
+    OutsideHolds,
+    Outside,
+    CommittedMaybe,
+    DeadMaybe,
+    OutsideMaybe,
+    UncommittedMaybe,
+    Refused,
+    FrontOther,
+    Uncommitted,
+    TornHolds,
+    ErasedHolds,
+    HoldsAnother,
+}
+
 /// A kind of cell: its class in the style sheet, its letter, and its words in the legend.
 pub struct Kind {
+    pub look: Look,
     pub css: &'static str,
     pub letter: &'static str,
     pub words: &'static str,
 }
 
-const fn kind(css: &'static str, letter: &'static str, words: &'static str) -> Kind {
-    Kind { css, letter, words }
+const fn kind(look: Look, css: &'static str, letter: &'static str, words: &'static str) -> Kind {
+    Kind { look, css, letter, words }
 }
 
-pub const ERASED: u8 = 0;
-pub const KINDS: [Kind; 25] = [
-    kind("e", "", "erased"),
-    kind("a", "A", "active: its change is open"),
-    kind("c h", "C", "committed, and holds"),
-    kind("c", "C", "committed, does not hold"),
-    kind("d h", "D", "dead (settled by a checkpoint), and holds"),
-    kind("d", "D", "dead, does not hold"),
-    kind("x", "X", "abandoned: not committed, does not hold"),
-    kind("t", "T", "torn: belongs to nobody"),
-    kind("b", "!", "bad page: recover refuses"),
-    kind("n", "M", "map page of the newest checkpoint"),
-    kind("n", "Z", "zone page of the newest checkpoint"),
-    kind("o", "M", "map page of an older checkpoint"),
-    kind("o", "Z", "zone page of an older checkpoint"),
-    kind("p", "M", "map page, checkpoint not complete"),
-    kind("p", "Z", "zone page, checkpoint not complete"),
-    kind("b h", "!", "bad page, and yet holds"),
-    kind("u", "?", "whole; no zone is known"),
-    kind("d h", "O", "outside the scan, and holds"),
-    kind("d", "O", "outside the scan, does not hold"),
-    kind("u", "C", "committed; not known whether it holds"),
-    kind("u", "D", "dead; not known whether it holds"),
-    kind("u", "O", "outside the scan; not known whether it holds"),
-    kind("u", "X", "not committed in the scan; not known whether it holds"),
-    kind("b", "!", "in the newest checkpoint: recover refuses it"),
-    kind("p", "?", "in the front, of no checkpoint"),
+pub const KINDS: [Kind; 29] = [
+    kind(Look::Erased, "e", "", "erased"),
+    kind(Look::Active, "a", "A", "active: its change is open"),
+    kind(Look::CommittedHolds, "c h", "C", "committed, and holds"),
+    kind(Look::Committed, "c", "C", "committed, does not hold"),
+    kind(Look::DeadHolds, "d h", "D", "dead (settled by a checkpoint), and holds"),
+    kind(Look::Dead, "d", "D", "dead, does not hold"),
+    kind(Look::Abandoned, "x", "X", "abandoned: aborted or lost in a cut"),
+    kind(Look::Torn, "t", "T", "torn: belongs to nobody"),
+    kind(Look::Bad, "b", "!", "bad page: recover refuses"),
+    kind(Look::NewestMap, "n", "M", "map page of the newest checkpoint"),
+    kind(Look::NewestZone, "n", "Z", "zone page of the newest checkpoint"),
+    kind(Look::OlderMap, "o", "M", "map page of an older checkpoint"),
+    kind(Look::OlderZone, "o", "Z", "zone page of an older checkpoint"),
+    kind(Look::PartMap, "p", "M", "map page, checkpoint not complete"),
+    kind(Look::PartZone, "p", "Z", "zone page, checkpoint not complete"),
+    kind(Look::BadHolds, "b h", "!", "bad page, and yet holds"),
+    kind(Look::Unknown, "u", "?", "whole; no zone is known"),
+    kind(Look::OutsideHolds, "d h", "O", "outside the scan, and holds"),
+    kind(Look::Outside, "d", "O", "outside the scan, does not hold"),
+    kind(Look::CommittedMaybe, "u", "C", "committed; not known whether it holds"),
+    kind(Look::DeadMaybe, "u", "D", "dead; not known whether it holds"),
+    kind(Look::OutsideMaybe, "u", "O", "outside the scan; not known whether it holds"),
+    kind(Look::UncommittedMaybe, "u", "X", "not committed in the scan; not known whether it holds"),
+    kind(Look::Refused, "b", "!", "in the newest checkpoint: recover refuses it"),
+    kind(Look::FrontOther, "p", "?", "in the front, of no checkpoint"),
+    kind(Look::Uncommitted, "u", "X", "not committed in the scan: dead or abandoned; does not hold"),
+    kind(Look::TornHolds, "t h", "T", "torn, and yet holds"),
+    kind(Look::ErasedHolds, "e h", "E", "erased, and yet holds"),
+    kind(Look::HoldsAnother, "b h", "L", "holds another logical page than its LPN says"),
 ];
 
-/// The kind of a page, as an index into `KINDS`; `holds` is none where no map is known.
-pub fn kind_of(page: &Page, fate: Fate, holds: Option<bool>) -> u8 {
-    let zone_page = (page.kind == 2) as u8;
+/// The kind of a page.
+pub fn look_of(page: &Page, fate: Fate, holds: Hold) -> Look {
+    let of_two = |map: Look, zone: Look| if page.kind == 2 { zone } else { map };
+    let by_hold = |holding: Look, not: Look, maybe: Look| match holds {
+        Hold::Unknown => maybe,
+        Hold::No => not,
+        Hold::Yes | Hold::Yet(_) => holding,
+    };
     match (page.class, fate, holds) {
-        (Class::Erased, ..) => ERASED,
-        (Class::Torn, ..) => 7,
-        (_, Fate::Active, _) => 1,
-        (_, Fate::Committed, Some(true)) => 2,
-        (_, Fate::Committed, Some(false)) => 3,
-        (_, Fate::Committed, None) => 19,
-        (_, Fate::Dead, Some(true)) => 4,
-        (_, Fate::Dead, Some(false)) => 5,
-        (_, Fate::Dead, None) => 20,
-        (_, Fate::Outside, Some(true)) => 17,
-        (_, Fate::Outside, Some(false)) => 18,
-        (_, Fate::Outside, None) => 21,
-        (_, Fate::Abandoned, _) => 6,
-        (_, Fate::Uncommitted, _) => 22,
-        (_, Fate::Bad, Some(true)) => 15,
-        (_, Fate::Bad, _) => 8,
-        (_, Fate::Newest, _) => 9 + zone_page,
-        (_, Fate::Older, _) => 11 + zone_page,
-        (_, Fate::Part, _) if page.kind == 1 || page.kind == 2 => 13 + zone_page,
-        (_, Fate::Part, _) => 24,
-        (_, Fate::Refused, _) => 23,
-        (_, Fate::Unknown | Fate::Nobody, _) => 16,
+        (Class::Erased, _, Hold::Yet(_)) => Look::ErasedHolds,
+        (Class::Erased, ..) => Look::Erased,
+        (Class::Torn, _, Hold::Yet(_)) => Look::TornHolds,
+        (Class::Torn, ..) => Look::Torn,
+        (_, Fate::Bad, _) => by_hold(Look::BadHolds, Look::Bad, Look::Bad),
+        (_, _, Hold::Yet(_)) => Look::HoldsAnother,
+        (_, Fate::Active, _) => Look::Active,
+        (_, Fate::Committed, _) => by_hold(Look::CommittedHolds, Look::Committed, Look::CommittedMaybe),
+        (_, Fate::Dead, _) => by_hold(Look::DeadHolds, Look::Dead, Look::DeadMaybe),
+        (_, Fate::Outside, _) => by_hold(Look::OutsideHolds, Look::Outside, Look::OutsideMaybe),
+        (_, Fate::Abandoned, _) => Look::Abandoned,
+        (_, Fate::Uncommitted, Hold::Unknown) => Look::UncommittedMaybe,
+        (_, Fate::Uncommitted, _) => Look::Uncommitted,
+        (_, Fate::Newest, _) => of_two(Look::NewestMap, Look::NewestZone),
+        (_, Fate::Older, _) => of_two(Look::OlderMap, Look::OlderZone),
+        (_, Fate::Part, _) if page.kind == 1 || page.kind == 2 => of_two(Look::PartMap, Look::PartZone),
+        (_, Fate::Part, _) => Look::FrontOther,
+        (_, Fate::Refused, _) => Look::Refused,
+        (_, Fate::Unknown | Fate::Nobody, _) => Look::Unknown,
     }
 }
 
@@ -97,7 +138,7 @@ pub fn edges(view: &View, pages: &[Page], k: usize) -> u8 {
         return 0;
     }
     let per_block = view.geometry.pages as usize;
-    let upper = k % per_block == 0 || group(k - 1) != here || here == Group::Lone;
+    let upper = k.is_multiple_of(per_block) || group(k - 1) != here || here == Group::Lone;
     let lower = k % per_block == per_block - 1 || group(k + 1) != here || here == Group::Lone;
     let line = match (here, view.fates[k]) {
         (Group::Lone, _) => 1,
@@ -118,10 +159,9 @@ enum Group {
 
 fn group(view: &View, pages: &[Page], k: usize) -> Group {
     let p = &pages[k];
-    let front = 2 * view.geometry.pages as usize;
     match p.is_whole() {
         false => Group::None,
-        true if k < front => view
+        true if view.zone(k) == Zone::Front => view
             .checkpoints
             .iter()
             .find(|c| (c.first..=c.first + view.geometry.map_pages()).contains(&k))
@@ -191,5 +231,17 @@ pub fn state_line(world: &World) -> String {
         work => format!("; {work} under way"),
     };
     let bad = world.reason(&Call::Read(0), Refusal(1)).map_or(String::new(), |why| format!("; until a recover, calls answer 1 bad frame: {why}"));
-    format!("last version {}, checkpoint {}, {} logical pages mapped; {open}{work}{bad}", s.version, s.checkpoint, world.mapped_count())
+    let mapped = plural(world.mapped_count(), "logical page");
+    format!("last version {}, checkpoint {}, {mapped} mapped; {open}{work}{bad}", s.version, s.checkpoint)
+}
+
+#[cfg(test)]
+mod tests {
+    use super::*;
+
+    #[test]
+    fn every_look_finds_its_own_kind() {
+        assert!(KINDS.iter().enumerate().all(|(i, kind)| kind.look as usize == i));
+        assert_eq!(Look::HoldsAnother as usize, KINDS.len() - 1);
+    }
 }

@@ -58,7 +58,9 @@ struct Arguments {
 
 fn arguments() -> Result<Arguments, String> {
     let mut found = Arguments { words: Vec::new(), pictures: Vec::new() };
-    let mut words = std::env::args().skip(1);
+    let text = |word: std::ffi::OsString| word.into_string().map_err(|word| format!("'{}' is no text: names in UTF-8 are expected", word.display()));
+    let words: Result<Vec<String>, String> = std::env::args_os().skip(1).map(text).collect();
+    let mut words = words?.into_iter();
     while let Some(word) = words.next() {
         match word.strip_prefix("--") {
             Some(kind @ ("html" | "svg")) => match words.next() {
@@ -79,11 +81,11 @@ fn main() -> ExitCode {
         let words: Vec<&str> = a.words.iter().map(String::as_str).collect();
         match words[..] {
             [] if a.pictures.is_empty() => prompt::interactive(),
-            ["help"] => help::text(None).map(|t| print(&mut out, &format!("{USAGE}\n{t}"))),
-            ["help", word] => help::text(Some(&word.to_lowercase())).map(|t| print(&mut out, &t)),
+            ["help"] => help::text(None).and_then(|t| out.say(&format!("{USAGE}\n{t}"))),
+            ["help", word] => help::text(Some(&word.to_lowercase())).and_then(|t| out.say(&t)),
             ["run", script] => run(script, &a.pictures, &mut out),
-            ["show", image] => show_image(&format!("import \"{}\"", quoted(image)), &a.pictures, &mut out),
-            ["show", image, b, p, l] => show_image(&format!("import \"{}\" {b} {p} {l}", quoted(image)), &a.pictures, &mut out),
+            ["show", image] => show_image(&format!("import {}", quoted(image)), &a.pictures, &mut out),
+            ["show", image, b, p, l] => show_image(&format!("import {} {b} {p} {l}", quoted(image)), &a.pictures, &mut out),
             _ => Err(format!("usage:\n{USAGE}")),
         }
     });
@@ -96,12 +98,12 @@ fn main() -> ExitCode {
     }
 }
 
-fn print(out: &mut Out, text: &str) {
-    let _ = out.write_all(text.as_bytes()).and_then(|()| out.flush());
-}
-
+/// A name as a line takes it: in quotes where it would not be one word without.
 fn quoted(name: &str) -> String {
-    name.replace('\\', "\\\\").replace('"', "\\\"")
+    match tokens::tokens(name) {
+        Ok((found, _)) if found == [(tokens::Token::Word(name.into()), 0)] && !["=", "/"].contains(&name) => name.into(),
+        _ => format!("\"{}\"", name.replace('\\', "\\\\").replace('"', "\\\"").replace('\n', "\\n")),
+    }
 }
 
 /// A script, line by line; it stops at the first error, and what was done is drawn all the same.
@@ -128,7 +130,7 @@ fn run(script: &str, pictures: &[String], out: &mut Out) -> Result<(), String> {
 }
 
 fn draw_all(session: &mut Session, pictures: &[String], out: &mut Out) -> Result<(), String> {
-    pictures.iter().try_for_each(|file| session.line(&format!("draw \"{}\"", quoted(file)), out).map(|_| ()))
+    pictures.iter().try_for_each(|file| session.line(&format!("draw {}", quoted(file)), out).map(|_| ()))
 }
 
 fn show_image(import: &str, pictures: &[String], out: &mut Out) -> Result<(), String> {

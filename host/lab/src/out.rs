@@ -1,5 +1,5 @@
 //! Standard output. Where its reader has gone, as in `lab .. | head`, the rest is dropped without a word.
-use std::io::{stdout, ErrorKind, Result, Write};
+use std::io::{stdout, Error, ErrorKind, Result, Write};
 
 #[derive(Default)]
 pub struct Out {
@@ -8,6 +8,11 @@ pub struct Out {
 }
 
 impl Out {
+    /// Writes a text at once; any other error than a reader who has gone is one.
+    pub fn say(&mut self, text: &str) -> std::result::Result<(), String> {
+        self.write_all(text.as_bytes()).and_then(|()| self.flush()).map_err(unwritable)
+    }
+
     fn unless_gone<T>(&mut self, dropped: T, write: impl FnOnce() -> Result<T>) -> Result<T> {
         if self.gone {
             return Ok(dropped);
@@ -30,4 +35,8 @@ impl Write for Out {
     fn flush(&mut self) -> Result<()> {
         self.unless_gone((), || stdout().flush())
     }
+}
+
+pub fn unwritable(e: Error) -> String {
+    format!("the output cannot be written: {e}")
 }

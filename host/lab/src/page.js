@@ -29,7 +29,8 @@ function place(k) { return [lab.left + Math.floor(k / lab.pages) * lab.column, l
 
 function tell(k) {
   const [kind, , words] = cells[k] || clean;
-  return name(k) + ': ' + (kind ? lab.words[words][4] + ' - ' + lab.kinds[kind][2] : 'erased');
+  const told = lab.words[words][4];
+  return name(k) + ': ' + (told ? told + ' - ' : '') + lab.kinds[kind][2];
 }
 
 function markup(k) {
@@ -83,7 +84,7 @@ function follow() {
   if (li.offsetTop < box.scrollTop || li.offsetTop + li.offsetHeight > box.scrollTop + box.clientHeight) box.scrollTop = li.offsetTop - box.clientHeight / 2;
 }
 
-// The page that was clicked stays in the line, and the pages of its transaction are marked.
+// The page that was clicked stays in the line, and the pages of its identifier are marked.
 function pin() {
   document.querySelectorAll('.same').forEach(g => g.classList.remove('same'));
   if (pinned < 0) return;

@@ -2,7 +2,7 @@
 use crate::{
     cut::{Amount, How},
     data::seeded,
-    help,
+    files, help,
     tokens::Token,
 };
 use bokuhira::{Call, Geometry, DATA};
@@ -59,7 +59,7 @@ impl Words<'_> {
     pub fn geometry_at(&self, at: usize) -> Result<Geometry, String> {
         let n = |i: usize, what: &str| self.number(at + i, what, 0xFFFF).map(|v| v as u16);
         let g = Geometry::new(n(0, "number of blocks")?, n(1, "number of pages")?, n(2, "number of logical pages")?);
-        if g.array_len() > 64 << 20 {
+        if g.array_len() > files::ROOM {
             return Err(format!(
                 "{} blocks of {} pages are more than the lab has room for: at most 128 blocks of 64 pages are allowed",
                 g.blocks, g.pages

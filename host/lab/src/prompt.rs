@@ -9,7 +9,7 @@ use crate::{
     terminal::{catch_interrupts, stop_asked, width, Keyed},
     words::plural,
 };
-use std::io::{stdin, BufRead, IsTerminal, Read, StdinLock, Write};
+use std::io::{stdin, BufRead, IsTerminal, Read, StdinLock};
 
 const PROMPT: &str = "lab> ";
 const WELCOME: &str = "The lab of the flash layer. 'help' lists the commands, 'help keys' the keys; a first one: format-to-the-end 8 8 16\n";
@@ -22,7 +22,7 @@ pub fn interactive() -> Result<(), String> {
     let (mut errors, mut warned) = (0, false);
     if people {
         catch_interrupts();
-        lines.say(WELCOME);
+        lines.out.say(WELCOME)?;
     }
     for at in 1.. {
         stop_asked();
@@ -35,9 +35,9 @@ pub fn interactive() -> Result<(), String> {
         match done {
             Ok(Next::Quit) if people && session.unsaved > 0 && !warned && !lines.out.gone => {
                 let n = plural(session.unsaved, "line");
-                lines.say(&format!(
+                lines.out.say(&format!(
                     "{n} not saved: 'save FILE' writes a script that 'lab run FILE' carries out again; 'quit' or Ctrl-D once more ends\n"
-                ));
+                ))?;
                 warned = true;
                 continue;
             }
@@ -45,7 +45,7 @@ pub fn interactive() -> Result<(), String> {
             Ok(Next::On) => (),
             Err(e) => {
                 errors += 1;
-                lines.say(&format!("line {at}: {e}\n"));
+                lines.out.say(&format!("line {at}: {e}\n"))?;
             }
         }
         warned = false;
@@ -68,10 +68,6 @@ struct Lines<'a> {
 }
 
 impl Lines<'_> {
-    fn say(&mut self, text: &str) {
-        let _ = self.out.write_all(text.as_bytes()).and_then(|()| self.out.flush());
-    }
-
     /// The next line; the inner error is a line that is no text.
     fn next(&mut self, first: bool) -> Result<Result<Ended, String>, String> {
         match Keyed::new() {
@@ -84,11 +80,11 @@ impl Lines<'_> {
     fn edited(&mut self) -> Result<Ended, String> {
         let mut keys = Keys::default();
         let begun = self.editor.begin(width());
-        self.say(&begun);
+        self.out.say(&begun)?;
         while let Some(byte) = self.input.by_ref().bytes().next() {
             let Some(key) = keys.byte(byte.map_err(unreadable)?) else { continue };
             let (sent, ended) = self.editor.key(key, width());
-            self.say(&sent);
+            self.out.say(&sent)?;
             if let Some(ended) = ended {
                 return Ok(ended);
             }
@@ -98,7 +94,7 @@ impl Lines<'_> {
 
     fn plain(&mut self, first: bool) -> Result<Result<Ended, String>, String> {
         if self.people {
-            self.say(PROMPT);
+            self.out.say(PROMPT)?;
         }
         let mut bytes = Vec::new();
         match self.input.read_until(b'\n', &mut bytes).map_err(unreadable)? {

@@ -60,7 +60,7 @@ pub fn zones(g: Geometry, counts: [usize; 3], lists: [&[u8]; 3], pointer: u8) ->
                 return Some(format!("{word} block {b}: data blocks are 2 to {last}"));
             }
             if seen.contains(b) {
-                return Some(format!("{word} block {b} is listed before"));
+                return Some(format!("{word} block {b} is listed twice"));
             }
             seen.push(*b);
         }

@@ -21,6 +21,9 @@ pub fn parse(line: &str, geometry: Option<Geometry>) -> Result<Option<Line>, Str
     let (tokens, end) = tokens(line)?;
     let Some(&(_, start)) = tokens.first() else { return Ok(None) };
     let equals = tokens.iter().position(|(t, _)| *t == Token::Word("=".into()));
+    if equals == Some(0) {
+        return Err("before '=' a call is expected, as in: begin 41 = 7".into());
+    }
     let stop = equals.map_or(end, |i| tokens[i].1);
     let expected = equals.map(|i| line[tokens[i].1 + 1..end].trim().to_string());
     let text = line[start..stop].trim().to_string();
@@ -31,6 +34,9 @@ pub fn parse(line: &str, geometry: Option<Geometry>) -> Result<Option<Line>, Str
     let command = Words { tokens: &tokens, lower: &lower, geometry }.command()?;
     if expected.is_some() && !matches!(command, Command::Call(_) | Command::FormatToTheEnd(_) | Command::UntilDone(_) | Command::Cut(..)) {
         return Err("an expectation ('= ..') stands only behind a call or a cut".into());
+    }
+    if expected.as_deref() == Some("") {
+        return Err("behind '=' an answer is expected, as in: begin 41 = 7".into());
     }
     Ok(Some(Line { text, head, command, expected }))
 }
@@ -199,6 +205,10 @@ mod tests {
     fn an_expectation_is_what_stands_behind_the_equals_sign() {
         let line = parse("begin 5 = 7 (-) same", None).unwrap().unwrap();
         assert_eq!((line.text.as_str(), line.expected.as_deref()), ("begin 5", Some("7 (-) same")));
+        assert!(parse("begin 5 =", None).unwrap_err().starts_with("behind '='"));
+        for line in ["=", "= 5", "= = =", "= begin 5"] {
+            assert!(parse(line, None).unwrap_err().starts_with("before '='"), "{line}");
+        }
     }
 
     #[test]

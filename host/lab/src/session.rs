@@ -4,6 +4,7 @@ use crate::{
     cut::How,
     draw, files, help,
     history::History,
+    out::unwritable,
     pages::Op,
     report::{compare, report},
     script::parse,
@@ -11,7 +12,7 @@ use crate::{
     spoil::spoil,
     sweep::sweep,
     trace,
-    words::{answer_words, call_line, page_name, plural},
+    words::{answer_words, call_line, geometry_words, page_name, plural},
     world::World,
 };
 use bokuhira::{Answer, Call, Geometry};
@@ -57,7 +58,7 @@ impl Session {
 
     fn command(&mut self, line: &Line, out: &mut dyn Write) -> Result<Next, String> {
         let text = line.text.as_str();
-        let mut say = |s: &str| out.write_all(s.as_bytes()).and_then(|()| out.flush()).map_err(|e| format!("the output cannot be written: {e}"));
+        let mut say = |s: &str| out.write_all(s.as_bytes()).and_then(|()| out.flush()).map_err(unwritable);
         match &line.command {
             Command::Quit => return Ok(Next::Quit),
             Command::Help(word) => say(&help::text(word.as_deref())?)?,
@@ -105,7 +106,7 @@ impl Session {
             Command::Import { file, geometry } => {
                 let (g, array) = files::image(file, *geometry)?;
                 self.world = Some(World::import(g, array));
-                let said = format!("{} blocks of {} pages, {} logical pages; 'recover' comes next", g.blocks, g.pages, g.logical);
+                let said = format!("{}; 'recover' comes next", geometry_words(g));
                 say(&format!("{text}: {said}\n"))?;
                 self.record(text, &said);
             }
@@ -133,8 +134,7 @@ impl Session {
             }
             Command::Geometry => {
                 let world = self.world_mut()?;
-                let g = world.geometry;
-                say(&format!("{} blocks of {} pages, {} logical pages; {} bytes\n", g.blocks, g.pages, g.logical, world.store.array.len()))?;
+                say(&format!("{}; {} bytes\n", geometry_words(world.geometry), world.store.array.len()))?;
             }
         }
         Ok(Next::On)
@@ -192,14 +192,16 @@ impl Session {
         if self.kept.is_some() {
             return Err("between keep and back each call starts anew: until-done has no end there".into());
         }
-        let before = expected.map(|_| self.world.clone());
+        let before = expected.map(|_| (self.world.clone(), self.history.clone()));
         loop {
             let (said, answer) = self.with_flash(call, |s| s.stride(name, call))?;
             say(&format!("{said}\n"))?;
             match (answer, expected) {
                 (Answer::More, _) => continue,
                 (_, Some(e)) if e != answer.number().to_string() => {
-                    self.world = before.flatten();
+                    if let Some(before) = before {
+                        (self.world, self.history) = before;
+                    }
                     return Err(format!("expected {e}, and the answer is {}", answer_words(answer)));
                 }
                 _ => return Ok(()),
@@ -232,14 +234,7 @@ impl Session {
         }
         let said = match answer {
             Answer::Done => {
-                format!(
-                    "{}; {}, {} blocks of {} pages, {} logical pages",
-                    answer_words(answer),
-                    plural(strides, "stride"),
-                    g.blocks,
-                    g.pages,
-                    g.logical
-                )
+                format!("{}; {}, {}", answer_words(answer), plural(strides, "stride"), geometry_words(g))
             }
             _ => {
                 let said = call_line(text, world, &call, answer, Op::Nothing);
@@ -285,4 +280,27 @@ fn blank(g: Geometry) -> Result<World, String> {
         return Err(format!("a flash of {} blocks of {} pages cannot be had: 8 to 128 blocks of 8 to 64 pages are allowed", g.blocks, g.pages));
     }
     Ok(World::blank(g))
+}
+
+#[cfg(test)]
+mod tests {
+    use super::*;
+
+    #[test]
+    fn after_an_error_everything_is_as_it_was_before_the_line() {
+        let mut session = Session::default();
+        let mut line = |line: &str| session.line(line, &mut Vec::new()).is_ok();
+        assert!(!line("until-done format 8 8 16 = 17"));
+        assert!(line("format-to-the-end 8 8 16") && line("lone 3 1"));
+        let wrong =
+            ["until-done checkpoint = 5", "until-done format 9 8 16 = 5", "checkpoint = 0", "format-to-the-end = 5", "cut lone 3 2 / all = x"];
+        let before = (session.world.clone().unwrap().store, draw::html(&session.history).unwrap());
+        for line in wrong {
+            assert!(session.line(line, &mut Vec::new()).is_err());
+            assert!(before == (session.world.clone().unwrap().store, draw::html(&session.history).unwrap()), "{line}");
+        }
+        assert_eq!(session.history.steps.len(), 2);
+        assert!(session.line("until-done checkpoint = 0", &mut Vec::new()).is_ok());
+        assert_eq!(session.history.steps.len(), 4);
+    }
 }

@@ -4,11 +4,12 @@ use crate::{
     data::data_words,
     pages::Class,
     trace::kind_word,
-    view::{Fate, View, Zone},
+    view::{Fate, Hold, View, Zone},
     words::{numbers, page_name, plural},
     world::World,
 };
 use bokuhira::{Kind, DATA, UNMAPPED};
+use std::ops::Range;
 
 pub fn show(world: &World, what: &Show) -> Result<String, String> {
     let g = world.geometry;
@@ -34,15 +35,15 @@ pub fn show(world: &World, what: &Show) -> Result<String, String> {
 fn all(world: &World) -> String {
     let view = world.view();
     let mut text = zones(world, &view) + &checkpoints(world, &view);
-    for b in 0..view.zones.len() {
-        if world.pages.list[view.block(b)].iter().any(|p| p.class != Class::Erased) {
-            text += &block(world, &view, b);
-        }
+    for b in (0..view.zones.len()).filter(|b| !shown(world, &view, *b).is_empty()) {
+        text += &block(world, &view, b);
     }
     text += &transactions(world, &view);
     text += &map(world, &view);
     text += &changes(world);
-    text += &book(world, &view);
+    if world.book.is_some() {
+        text += &book(world, &view);
+    }
     if let Some(c) = &world.cut {
         text += &c.words(world.geometry, false);
     }
@@ -94,8 +95,10 @@ fn zones(world: &World, view: &View) -> String {
 
 fn checkpoints(world: &World, view: &View) -> String {
     let mut text = String::from("checkpoints\n");
-    if view.checkpoints.is_empty() {
-        text += "  none is complete\n";
+    match &view.refused {
+        Some(why) if why.refusal.0 == 1 => text += &format!("  not known: {}\n", why.short()),
+        _ if view.checkpoints.is_empty() => text += "  none is complete\n",
+        _ => (),
     }
     for (i, c) in view.checkpoints.iter().enumerate() {
         let newest = match &view.refused {
@@ -121,42 +124,46 @@ fn checkpoints(world: &World, view: &View) -> String {
 fn fate_words(world: &World, view: &View, k: usize) -> String {
     let p = &world.pages.list[k];
     let fate = match (p.class, view.clauses.get(&k)) {
-        (Class::Torn, _) => return format!("belongs to nobody (Zeros {}, counted {})", p.zeros, p.counted),
+        (Class::Torn, _) => format!("belongs to nobody (Zeros {}, counted {})", p.zeros, p.counted),
         (_, Some(clause)) => format!("{}: {clause}", view.fates[k].word()),
         _ => view.fates[k].word().into(),
     };
-    if view.holds(k) == Some(true) {
-        fate + ", holds"
-    } else {
-        fate
+    match view.holds[k] {
+        Hold::Unknown | Hold::No => fate,
+        Hold::Yes => fate + ", holds",
+        Hold::Yet(lpn) => format!("{fate}{}and yet holds LPN {lpn}", if fate.is_empty() { "" } else { ", " }),
     }
 }
 
 /// Said of a block or a page where no map is known.
-fn holds_unknown(view: &View) -> &'static str {
-    if view.refused.is_some() {
+fn holds_unknown(view: &View, b: usize) -> &'static str {
+    if view.refused.is_some() && view.zones[b] != Zone::Front {
         "; what holds is not known, since recover refuses"
     } else {
         ""
     }
 }
 
+/// The pages of a block that are shown: all up to the last that is not erased, or that holds.
+fn shown(world: &World, view: &View, b: usize) -> Range<usize> {
+    let pages = view.block(b);
+    let seen = |k: &usize| world.pages.list[*k].class != Class::Erased || matches!(view.holds[*k], Hold::Yet(_));
+    pages.start..pages.clone().rev().find(seen).map_or(pages.start, |last| last + 1)
+}
+
 fn block(world: &World, view: &View, b: usize) -> String {
     let clean = view.clean(&world.pages.list, b);
-    let unknown = if b > 1 { holds_unknown(view) } else { "" };
-    let mut text = format!("block {b}, {}, {}{unknown}\n", view.zones[b].word(), plural(clean, "clean page"));
-    if clean == world.geometry.pages as usize {
-        return text;
+    let mut text = format!("block {b}, {}, {}{}\n", view.zones[b].word(), plural(clean, "clean page"), holds_unknown(view, b));
+    let shown = shown(world, view, b);
+    if !shown.is_empty() {
+        text += "  page  class      LPN  TxCnt        TxID       TxVer  Kind  transaction\n";
     }
-    text += "  page  class      LPN  TxCnt        TxID       TxVer  Kind  transaction\n";
-    for k in view.block(b).take(world.geometry.pages as usize - clean) {
-        let p = &world.pages.list[k];
+    for k in shown {
+        let (p, fate) = (&world.pages.list[k], fate_words(world, view, k));
         let line = match p.class {
-            Class::Erased => format!("  {k:4}  erased"),
-            Class::Whole => {
-                format!("  {k:4}  whole    {:5}  {:5}  {:10}  {:10}  {:4}  {}", p.lpn, p.cnt, p.id, p.ver, p.kind_word(), fate_words(world, view, k))
-            }
-            Class::Torn => format!("  {k:4}  torn         -      -           -           -     -  {}", fate_words(world, view, k)),
+            Class::Whole => format!("  {k:4}  whole    {:5}  {:5}  {:10}  {:10}  {:4}  {fate}", p.lpn, p.cnt, p.id, p.ver, p.kind_word()),
+            Class::Erased if fate.is_empty() => format!("  {k:4}  erased"),
+            class => format!("  {k:4}  {:6}       -      -           -           -     -  {fate}", class.word()),
         };
         text += line.trim_end();
         text += "\n";
@@ -168,6 +175,9 @@ fn page(world: &World, view: &View, k: usize) -> String {
     let p = &world.pages.list[k];
     let b = k / world.geometry.pages as usize;
     let mut text = format!("{}, {}: {}\n", page_name(world.geometry, k), view.zones[b].word(), p.class.word());
+    if let (Class::Erased | Class::Torn, Hold::Yet(lpn)) = (p.class, view.holds[k]) {
+        text += &format!("  and yet holds LPN {lpn}: a read gives its data as they stand\n");
+    }
     if p.class == Class::Erased {
         return text;
     }
@@ -177,7 +187,7 @@ fn page(world: &World, view: &View, k: usize) -> String {
     text += &format!("  LPN {}, TxCnt {}, TxID {}, TxVer {}, Kind {}, Reserved {}\n", p.lpn, p.cnt, p.id, p.ver, p.kind, p.reserved);
     text += &format!("  Zeros {}, counted {}, difference {}\n", p.zeros, p.counted, p.zeros as i32 - p.counted as i32);
     if p.is_whole() {
-        text += &format!("  transaction: {}{}\n", fate_words(world, view, k), if b > 1 { holds_unknown(view) } else { "" });
+        text += &format!("  transaction: {}{}\n", fate_words(world, view, k), holds_unknown(view, b));
     }
     text += &format!("  data: {}\n", data_words(world.data(k)));
     for (i, line) in world.page_bytes(k).chunks(32).enumerate() {
@@ -196,11 +206,16 @@ fn map(world: &World, view: &View) -> String {
     let mut text = String::from("map\n");
     for (lpn, k) in world.store.map.iter().enumerate().filter(|(_, k)| **k != UNMAPPED) {
         let k = *k as usize;
-        if k < world.pages.list.len() {
-            text += &format!("  LPN {lpn:4} is in {}: {}\n", page_name(world.geometry, k), data_words(world.data(k)));
-        } else {
+        let Some(p) = world.pages.list.get(k) else {
             text += &format!("  LPN {lpn:4} is in page {k}, which there is not\n");
-        }
+            continue;
+        };
+        let but = match p.class {
+            Class::Whole if p.lpn as usize == lpn => String::new(),
+            Class::Whole => format!("; but that page carries LPN {}", p.lpn),
+            class => format!("; but that page is {}", class.word()),
+        };
+        text += &format!("  LPN {lpn:4} is in {}: {}{but}\n", page_name(world.geometry, k), data_words(world.data(k)));
     }
     text + &format!("  {} mapped, {} never written\n", world.mapped_count(), world.store.map.len() - world.mapped_count())
 }
@@ -232,7 +247,7 @@ fn transactions(world: &World, view: &View) -> String {
     let known = view.zones_known();
     let scan: Vec<usize> = match known {
         true => view.scan().collect(),
-        false => (2 * world.geometry.pages as usize..pages.len()).filter(|k| pages[*k].kind == 0).collect(),
+        false => (0..pages.len()).filter(|k| view.zone(*k) != Zone::Front && pages[*k].kind == 0).collect(),
     };
     let mut text = match known {
         true => String::from("transactions in scan order\n"),
@@ -251,6 +266,7 @@ fn transactions(world: &World, view: &View) -> String {
     }
     for (id, list) in &found {
         let mark = list.iter().map(|k| &pages[*k]).find(|p| p.cnt != 0);
+        // all pages of an identifier have one fate, but for bad ones
         let fate = list.iter().map(|k| view.fates[*k]).find(|f| *f != Fate::Bad).unwrap_or(Fate::Bad);
         let follows = if known { format!(": {}", fate.word()) } else { String::new() };
         let verdict = match mark {
@@ -278,7 +294,9 @@ fn book(world: &World, view: &View) -> String {
     if world.spoilt {
         text += "  pages or numbers were written by hand: the book does not know of it\n";
     }
-    let Some(book) = &world.book else { return text + "  no book: it begins with a finished format, and this flash has none\n" };
+    let Some(book) = &world.book else {
+        return text + "  no book: no finished format of this session made this flash, so nothing is known of what was asked of it\n";
+    };
     let lost = world.lost;
     let (mut same, mut never) = (0, 0);
     for (lpn, said) in book.pages.iter().enumerate() {

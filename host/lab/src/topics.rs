@@ -6,7 +6,7 @@ pub const TOPICS: [(&str, &str); 7] = [
         "HOW says which of the due bits a cut leaves turned. The due bits are those that the call's one\n\
          program or erase would turn, in order: lowest byte first, in a byte bit 0 first.\n\
          \x20 none, all      no bit, every bit\n\
-         \x20 first N        the first N; first N% the first part in a hundred\n\
+         \x20 first N        the first N; first N%: the first N in a hundred\n\
          \x20 last N         the last N; last N%\n\
          \x20 but N          all but the one at index N, counted from 0; but last: all but the last\n\
          \x20 every N R      those whose index leaves R when divided by N\n\
@@ -30,20 +30,27 @@ pub const TOPICS: [(&str, &str); 7] = [
         "A page is erased (all ones), whole (its Zeros field agrees with its zero bits) or torn (it does not;\n\
          a torn page belongs to nobody). A whole page belongs to a transaction, by its TxID; a page with\n\
          TxID 0 is a lone write, a transaction by itself. A page with TxCnt above 0 is its mark. Scan order\n\
-         is the unavailable blocks, then the available ones.\n\
+         is the unavailable blocks, then the available ones. Clean are the erased pages after the last one of\n\
+         a block that is not erased; only these are programmed. The pointer is the block from which on a\n\
+         checkpoint takes free ones. A stride is what one call of a format, a checkpoint or a reclaim does: at\n\
+         most one program or erase.\n\
          \x20 active            its identifier is one of an open change\n\
          \x20 committed         its mark's TxCnt equals the number of its whole pages in scan order, and TxVer\n\
          \x20                   is above the last version in the newest checkpoint: a recovery enters it\n\
          \x20 dead              over: the newest checkpoint's map has its outcome, and a recovery does not redo\n\
-         \x20                   it. The count agrees with TxVer not above that version, or the page holds\n\
-         \x20                   though other pages of its change have left the scan\n\
-         \x20 abandoned         in scan order, and none of these: aborted or lost in a cut, or replaced after\n\
-         \x20                   other pages of its change left the scan\n\
+         \x20                   it. The count agrees with TxVer not above that version; or other pages of its\n\
+         \x20                   change have left the scan, and its mark has such a TxVer or a page of it holds\n\
+         \x20 abandoned         none of these, and all of its change is in scan order: aborted or lost in a cut\n\
+         \x20 not committed in the scan\n\
+         \x20                   dead or abandoned, and nobody can tell which: pages of its change may have\n\
+         \x20                   left the scan, or recover refuses\n\
          \x20 outside the scan  in a checkpointed or free block: a recovery no longer looks at it, and nothing\n\
          \x20                   on it tells whether it was committed or abandoned\n\
          \x20 bad page          a scanned whole page that makes recover answer 4, and what is wrong with it\n\
          \x20 holds             the map points to this page: a read gives it. Committed, dead and outside the\n\
          \x20                   scan say nothing of it; only the map does\n\
+         \x20 and yet holds     the map points to it, and a read gives it as it stands, though it is torn, erased\n\
+         \x20                   or carries another LPN: its bits changed, or something else wrote to the flash\n\
          In the front, map and zone pages belong to the newest complete checkpoint, to an older one, or to\n\
          none that is complete. After a cut the state is lost; zones and 'holds' are then shown as a recovery\n\
          will find them. Where recover refuses there is no map, and nothing is said of what holds. The zones\n\
@@ -67,7 +74,8 @@ pub const TOPICS: [(&str, &str); 7] = [
         "refusals",
         "\x20 1 bad frame         buffers or state out of range (the lab says which); also: no state, recover first\n\
          \x20 2 no checkpoint     recover finds no complete checkpoint (the lab says what stands in the front)\n\
-         \x20 3 bad checkpoint    its map or zones are out of range (the lab says which entry or block)\n\
+         \x20 3 bad checkpoint    a map entry or a block that cannot be: out of range, twice, or where nothing may stand\n\
+         \x20                     (the lab says which)\n\
          \x20 4 bad page          a scanned whole page that the layer never writes (the lab says which, and why)\n\
          \x20 5 bad logical page  there is no such logical page\n\
          \x20 6 bad identifier    0 or 4294967295\n\
@@ -76,7 +84,7 @@ pub const TOPICS: [(&str, &str); 7] = [
          \x20 9 places full       eight changes are open\n\
          \x2010 too long          64 pages are already written\n\
          \x2011 bad length        data not 512 bytes\n\
-         \x2012 zone short        too few clean pages: checkpoint, then reclaim\n\
+         \x2012 zone short        too few clean pages; checkpoint, and if that is not enough reclaim and checkpoint again\n\
          \x2013 versions spent    no number is left\n\
          \x2014 never written     the logical page is unmapped\n\
          \x2015 no gain           no checkpointed block has a page to spare\n\
@@ -92,3 +100,21 @@ pub const TOPICS: [(&str, &str); 7] = [
          without a mark.",
     ),
 ];
+
+#[cfg(test)]
+mod tests {
+    use super::*;
+    use bokuhira::Refusal;
+
+    #[test]
+    fn the_refusals_have_their_words() {
+        let text = TOPICS.iter().find(|(topic, _)| *topic == "refusals").unwrap().1;
+        let numbered: Vec<&str> = text.lines().filter(|line| !line.starts_with("     ")).collect();
+        assert_eq!(numbered.len(), 17);
+        for (number, line) in (1..).zip(numbered) {
+            let (head, means) = line.split_at(22);
+            assert_eq!(head.trim_end(), format!("{number:3} {}", Refusal(number).word()));
+            assert!(!means.starts_with(' ') && !means.is_empty(), "{line}");
+        }
+    }
+}

@@ -15,7 +15,7 @@ pub enum Zone {
     Unavailable,
     Checkpointed,
     Free,
-    /// Neither a state nor a checkpoint says, or a format is under way.
+    /// Neither a state nor a checkpoint says, a format is under way, or the geometry is not possible.
     Unknown,
 }
 
@@ -43,7 +43,7 @@ pub enum Fate {
     Committed,
     Dead,
     Abandoned,
-    /// Dead or abandoned: without a map nobody knows which.
+    /// Dead or abandoned: pages of its change may have left the scan, or recovery refuses, and nobody knows which.
     Uncommitted,
     /// In a block that no scan reads.
     Outside,
@@ -57,6 +57,18 @@ pub enum Fate {
     Refused,
     /// A whole page in a block whose zone nobody knows.
     Unknown,
+}
+
+/// Whether the map points to a page, so that a read gives it.
+#[derive(Clone, Copy, PartialEq, Eq, Debug)]
+pub enum Hold {
+    /// No map is known.
+    Unknown,
+    No,
+    /// It does, and the page is a whole one of that logical page.
+    Yes,
+    /// It does, for this logical page, and yet the page is no whole one of it.
+    Yet(u16),
 }
 
 impl Fate {
@@ -97,8 +109,7 @@ pub struct View {
     /// None where the zones are not known.
     pub pointer: Option<u8>,
     pub fates: Vec<Fate>,
-    /// Of each page, whether the map points to it; none where no map is known.
-    pub holds: Option<Vec<bool>>,
+    pub holds: Vec<Hold>,
     /// What refusal 4 sees on each bad page.
     pub clauses: HashMap<usize, String>,
     pub checkpoints: Vec<Checkpoint>,
@@ -115,7 +126,9 @@ impl View {
     /// refuses that.
     pub fn of(g: Geometry, array: &[u8], pages: &[Page], source: Source) -> View {
         let blocks = g.blocks as usize;
-        let checkpoints = complete(g, array, pages);
+        // of a geometry that is not possible nothing is said: not even where the front is
+        let possible = !matches!(&source, Source::Refused(why) if why.refusal.0 == 1);
+        let checkpoints = if possible { complete(g, array, pages) } else { vec![] };
         let newest = newest(&checkpoints);
         let taken = newest.map(|i| &checkpoints[i]);
         let of_checkpoint = |c: &Checkpoint| (c.available.clone(), c.unavailable.clone(), c.free.clone(), c.pointer);
@@ -132,11 +145,11 @@ impl View {
         for (list, zone) in [(&available, Zone::Available), (&unavailable, Zone::Unavailable), (&free, Zone::Free)] {
             list.iter().filter(|b| (**b as usize) < blocks).for_each(|b| zones[*b as usize] = zone);
         }
-        zones.iter_mut().take(2).for_each(|z| *z = Zone::Front);
+        zones.iter_mut().take(if possible { 2 } else { 0 }).for_each(|z| *z = Zone::Front);
         let (state, holds, refused) = match source {
-            Source::State(s, map) => (Some(s), Some(held(pages, map)), None),
-            Source::Recovery(map) => (None, Some(held(pages, map)), None),
-            Source::Refused(why) => (None, None, Some(why)),
+            Source::State(s, map) => (Some(s), held(pages, map), None),
+            Source::Recovery(map) => (None, held(pages, map), None),
+            Source::Refused(why) => (None, vec![Hold::Unknown; pages.len()], Some(why)),
         };
         let fates = vec![Fate::Nobody; pages.len()];
         let clauses = HashMap::new();
@@ -152,9 +165,9 @@ impl View {
         self.pointer.is_some()
     }
 
-    /// Whether the map points to a page; none where no map is known.
-    pub fn holds(&self, k: usize) -> Option<bool> {
-        self.holds.as_ref().map(|h| h[k])
+    /// The zone of a page's block.
+    pub fn zone(&self, k: usize) -> Zone {
+        self.zones[k / self.geometry.pages as usize]
     }
 
     /// The pages of a block, as numbers.
@@ -183,54 +196,73 @@ impl View {
     }
 
     fn judge(&mut self, pages: &[Page], state: Option<&State>) {
-        let map_pages = self.geometry.map_pages();
-        let at_fault = |k: usize| self.refused.as_ref().is_some_and(|why| why.refusal.0 == 3 && why.pages.contains(&k));
-        for k in self.block(0).chain(self.block(1)) {
-            let inside = |c: &Checkpoint| (c.first..=c.first + map_pages).contains(&k);
-            self.fates[k] = match (pages[k].is_whole(), self.newest) {
-                (false, _) => Fate::Nobody,
-                (true, Some(_)) if at_fault(k) => Fate::Refused,
-                (true, Some(n)) if inside(&self.checkpoints[n]) => Fate::Newest,
-                _ if self.checkpoints.iter().any(inside) => Fate::Older,
-                _ => Fate::Part,
-            };
-        }
-        let fate = if self.zones_known() { Fate::Outside } else { Fate::Unknown };
-        for k in 2 * self.geometry.pages as usize..pages.len() {
-            self.fates[k] = if pages[k].is_whole() { fate } else { Fate::Nobody };
+        let elsewhere = if self.zones_known() { Fate::Outside } else { Fate::Unknown };
+        for k in (0..pages.len()).filter(|k| pages[*k].is_whole()) {
+            self.fates[k] = if self.zone(k) == Zone::Front { self.front(k) } else { elsewhere };
         }
         let active: HashSet<u32> = state.iter().flat_map(|s| &s.places).map(|p| p.id).filter(|id| *id != 0).collect();
         let scan: Vec<usize> = self.scan().filter(|k| pages[*k].is_whole()).collect();
         self.clauses = bad_pages(self.geometry, pages, scan.iter().copied()).into_iter().collect();
-        let mut counts: HashMap<u32, u16> = HashMap::new();
-        scan.iter().for_each(|k| *counts.entry(pages[*k].id).or_default() += 1);
-        // the version of each transaction that a mark of it commits
-        let marks = scan.iter().map(|k| &pages[*k]).filter(|p| p.cnt != 0 && p.cnt == if p.id == 0 { 1 } else { counts[&p.id] });
-        let committed: HashMap<u32, u32> = marks.map(|p| (p.id, p.ver)).collect();
-        let last = self.last_version();
-        let over = |ver: u32| if ver > last { Fate::Committed } else { Fate::Dead };
+        let mut changes: HashMap<u32, Vec<usize>> = HashMap::new();
+        scan.iter().filter(|k| pages[**k].id != 0).for_each(|k| changes.entry(pages[*k].id).or_default().push(*k));
+        let changes: HashMap<u32, Fate> = changes.into_iter().map(|(id, list)| (id, self.change(pages, &list))).collect();
         for &k in &scan {
             let p = &pages[k];
-            self.fates[k] = match (committed.get(&p.id), self.holds(k)) {
+            self.fates[k] = match changes.get(&p.id) {
                 _ if self.clauses.contains_key(&k) => Fate::Bad,
-                _ if p.id == 0 => over(p.ver),
                 _ if active.contains(&p.id) => Fate::Active,
-                (Some(ver), _) => over(*ver),
-                // the checkpoint's map has it, and other pages of its change have left the scan
-                (None, Some(true)) => Fate::Dead,
-                (None, Some(false)) => Fate::Abandoned,
-                (None, None) => Fate::Uncommitted,
+                Some(fate) => *fate,
+                None => self.over(p.ver),
             };
+        }
+    }
+
+    /// What became of a whole page in the front.
+    fn front(&self, k: usize) -> Fate {
+        let inside = |c: &Checkpoint| (c.first..=c.first + self.geometry.map_pages()).contains(&k);
+        let at_fault = self.refused.as_ref().is_some_and(|why| why.refusal.0 == 3 && why.pages.contains(&k));
+        match self.newest {
+            Some(_) if at_fault => Fate::Refused,
+            Some(n) if inside(&self.checkpoints[n]) => Fate::Newest,
+            _ if self.checkpoints.iter().any(inside) => Fate::Older,
+            _ => Fate::Part,
+        }
+    }
+
+    /// What became of a transaction that is committed with this version.
+    fn over(&self, ver: u32) -> Fate {
+        if ver > self.last_version() {
+            Fate::Committed
+        } else {
+            Fate::Dead
+        }
+    }
+
+    /// What became of a change that is not active, by its whole pages in scan order. Where no mark's count agrees, pages have left the scan,
+    /// or the change was never committed. A checkpoint lets no page leave while its change is open or has a page in a block that stays
+    /// available; so a change with a mark above the checkpoint's last version, or with a page in an available block, is all there.
+    fn change(&self, pages: &[Page], list: &[usize]) -> Fate {
+        let marks: Vec<&Page> = list.iter().map(|k| &pages[*k]).filter(|p| p.cnt != 0 && p.ver != 0).collect();
+        let settled = marks.iter().any(|p| p.ver <= self.last_version()) || list.iter().any(|k| self.holds[*k] == Hold::Yes);
+        let all_there = !marks.is_empty() || list.iter().any(|k| self.zone(*k) == Zone::Available);
+        match marks.iter().find(|p| p.cnt as usize == list.len()) {
+            Some(mark) => self.over(mark.ver),
+            None if settled => Fate::Dead,
+            None if all_there && self.refused.is_none() => Fate::Abandoned,
+            None => Fate::Uncommitted,
         }
     }
 }
 
-/// Of each page, whether the map points to it and it is a whole page of that logical page.
-fn held(pages: &[Page], map: &[u16]) -> Vec<bool> {
-    let mut holds = vec![false; pages.len()];
+/// Of each page, whether the map points to it.
+fn held(pages: &[Page], map: &[u16]) -> Vec<Hold> {
+    let mut holds = vec![Hold::No; pages.len()];
     for (lpn, k) in map.iter().enumerate() {
-        if pages.get(*k as usize).is_some_and(|p| p.is_whole() && p.lpn as usize == lpn) {
-            holds[*k as usize] = true;
+        let (lpn, k) = (lpn as u16, *k as usize);
+        match pages.get(k) {
+            Some(p) if p.is_whole() && p.lpn == lpn => holds[k] = Hold::Yes,
+            Some(_) if holds[k] == Hold::No => holds[k] = Hold::Yet(lpn),
+            _ => (),
         }
     }
     holds
@@ -240,7 +272,7 @@ fn held(pages: &[Page], map: &[u16]) -> Vec<bool> {
 mod tests {
     use super::*;
     use crate::{
-        look::{kind_of, state_line, KINDS},
+        look::{look_of, state_line, KINDS},
         lot::Lot,
         show::show,
         world::World,
@@ -261,13 +293,18 @@ mod tests {
             let view = world.view();
             let Some(why) = &view.refused else { continue };
             refused[why.refusal.0 as usize] += 1;
-            assert!(view.holds.is_none());
+            assert!(view.holds.iter().all(|h| *h == Hold::Unknown));
             assert_eq!(view.zones_known(), why.refusal.0 == 4);
+            let possible = why.refusal.0 != 1;
+            assert!(view.zones[..2].iter().all(|z| (*z == Zone::Front) == possible));
+            assert!(possible || view.checkpoints.is_empty());
             for (k, page) in world.pages.list.iter().enumerate() {
-                let words = KINDS[kind_of(page, view.fates[k], view.holds(k)) as usize].words;
+                let words = KINDS[look_of(page, view.fates[k], view.holds[k]) as usize].words;
                 assert!(!words.contains("hold") || words.contains("not known whether it holds"), "{words}");
+                assert!(possible || !page.is_whole() || view.fates[k] == Fate::Unknown);
             }
             let shown = show(&world, &crate::command::Show::All).unwrap();
+            assert!(possible || shown.contains("checkpoints\n  not known: recover refuses: 1 bad frame\n") && !shown.contains("front"), "{shown}");
             assert!(!shown.contains(", holds") && !shown.contains("replaced") && shown.contains(&why.sentence()), "{shown}");
             assert_eq!(state_line(&world), why.sentence());
         }

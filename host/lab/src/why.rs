@@ -59,7 +59,8 @@ fn front(g: Geometry, pages: &[Page]) -> String {
     let other = pages[..2 * p].iter().position(|z| z.is_whole() && z.kind == 2 && (1..=4).contains(&z.lpn) && z.cnt == z.lpn + 1);
     if let Some(m) = other.map(|k| pages[k].lpn as usize).filter(|m| *m != g.map_pages()) {
         let (from, to) = (256 * (m - 1) + 1, 256 * m);
-        parts.push(format!("a zone page for {m} map pages stands there, so for {from} to {to} logical pages, and {} were given", g.logical));
+        let pages = plural(m, "map page");
+        parts.push(format!("a zone page for {pages} stands there, so for {from} to {to} logical pages, and {} were given", g.logical));
     }
     parts.join("; ")
 }
@@ -100,10 +101,12 @@ fn bad_checkpoint(g: Geometry, array: &[u8], c: &Checkpoint) -> Option<(usize, S
     let entries: Vec<u16> = (0..256 * m).map(entry).collect();
     let unused = || {
         let i = (logical..entries.len()).find(|i| entries[*i] != UNMAPPED)?;
-        Some((i, format!("{}, and not used with {}", entries[i], plural(logical, "logical page"))))
+        let used = if logical == 1 { "only entry 0 is used".into() } else { format!("only entries 0 to {} are used", logical - 1) };
+        Some((i, format!(" says page {}, but with {} {used}", entries[i], plural(logical, "logical page"))))
     };
-    if let Some((i, words)) = ranges::map(g, &entries[..logical]).or_else(unused) {
-        return Some((c.first + i / 256, format!("entry {i}: {words}")));
+    let used = || ranges::map(g, &entries[..logical]).map(|(i, words)| (i, format!(": {words}")));
+    if let Some((i, words)) = used().or_else(unused) {
+        return Some((c.first + i / 256, format!("entry {i}{words}")));
     }
     let zone = c.first + m;
     let data = &array[zone * PAGE..][..DATA];
@@ -221,11 +224,11 @@ mod tests {
                 "a zone page for # map pages stands there, so for # to # logical pages, and # were given",
                 "map page # of checkpoint #: entry #: page # is in no data block",
                 "entry #: page # stands in entry # already",
-                "entry #: #, and not used with # logical pages",
+                "entry # says page #, but with # logical pages only entries # to # are used",
                 "zone page of checkpoint #: # available, # unavailable and # free blocks: there are # data blocks",
                 "# available blocks: at most three are allowed",
                 "available block #: data blocks are # to #",
-                "block # is listed before",
+                "block # is listed twice",
                 "not ascending",
                 "pointer #: data blocks are # to #",
                 "byte # behind the lists is #",

@@ -4,7 +4,7 @@ use crate::{
     pages::{Op, Page},
     world::World,
 };
-use bokuhira::{Answer, Call, Geometry, Refusal};
+use bokuhira::{Answer, Call, Geometry, Kind, Refusal};
 
 pub fn answer_words(answer: Answer) -> String {
     match answer {
@@ -63,7 +63,7 @@ pub fn call_line(text: &str, world: &World, call: &Call, answer: Answer, op: Op)
                 ));
             }
         }
-        (_, Answer::More) if op == Op::Nothing => parts.push("a block erased that was so before".into()),
+        (_, Answer::More) if op == Op::Nothing => parts.extend(erased_again(world).map(|b| format!("block {b} erased (it was erased before)"))),
         (_, Answer::Refused(r)) => parts.extend(world.reason(call, r)),
         _ => (),
     }
@@ -72,6 +72,20 @@ pub fn call_line(text: &str, world: &World, call: &Call, answer: Answer, op: Op)
         parts.push(done);
     }
     parts.join("; ")
+}
+
+/// The block that the stride of a format or a checkpoint just erased.
+fn erased_again(world: &World) -> Option<u16> {
+    let s = world.state()?;
+    match s.work.kind {
+        Kind::Format => s.work.stride.checked_sub(1),
+        _ => Some(s.front as u16),
+    }
+}
+
+/// As in "8 blocks of 8 pages, 16 logical pages".
+pub fn geometry_words(g: Geometry) -> String {
+    format!("{} of {}, {}", plural(g.blocks as usize, "block"), plural(g.pages as usize, "page"), plural(g.logical as usize, "logical page"))
 }
 
 /// A number of things: one has no s.

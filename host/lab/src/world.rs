@@ -6,7 +6,7 @@ use crate::{
     pages::{Op, Pages},
     view::{Source, View},
     why::{self, Why},
-    words::refusal_words,
+    words::{geometry_words, refusal_words},
 };
 use bokuhira::{Answer, Call, Geometry, Kind, Refusal, State, Store, DATA, HOLD, PAGE, STATE, UNMAPPED};
 use std::ops::Range;
@@ -82,10 +82,9 @@ impl World {
         };
         let w = self.geometry;
         match call {
-            Call::Format(g) | Call::Recover(g) if refusal.0 == 1 && *g != w => Some(format!(
-                "{words}; this flash has {} blocks of {} pages and {} logical pages; 'import' or 'blank' takes another",
-                w.blocks, w.pages, w.logical
-            )),
+            Call::Format(g) | Call::Recover(g) if refusal.0 == 1 && *g != w => {
+                Some(format!("{words}; this flash has {}; 'import' or 'blank' takes another", geometry_words(w)))
+            }
             _ => Some(words).filter(|words| !words.is_empty()),
         }
     }
@@ -186,8 +185,13 @@ impl World {
 #[cfg(test)]
 mod tests {
     use super::*;
-    use crate::{cut::Amount, lot::Lot, view::Fate};
+    use crate::{
+        cut::Amount,
+        lot::Lot,
+        view::{Fate, Hold},
+    };
     use bokuhira::UNMAPPED;
+    use std::collections::{BTreeMap, HashMap};
 
     /// What the view says of the pages, carried out by hand on the newest checkpoint's map, is the map that the proved recovery makes.
     fn redo(world: &World) -> Vec<u16> {
@@ -243,6 +247,98 @@ mod tests {
             }
         }
         assert!(cuts > 500, "{cuts} cuts");
+    }
+
+    /// What truly became of the changes: of each page its change, none for a lone one; and of each change whether it was committed.
+    struct Truth {
+        of_page: Vec<Option<usize>>,
+        open: HashMap<u32, usize>,
+        committed: Vec<bool>,
+    }
+
+    impl Truth {
+        fn follows(&mut self, call: &Call, done: bool, op: Op, pages: usize) {
+            let change = match call {
+                Call::Write { id, .. } | Call::Commit(id) => self.open.get(id).copied(),
+                _ => None,
+            };
+            match op {
+                Op::Program(k) => self.of_page[k] = change,
+                Op::Erase(b) => self.of_page[b * pages..(b + 1) * pages].fill(None),
+                Op::Nothing => (),
+            }
+            match call {
+                Call::Begin(id) if done => {
+                    self.open.insert(*id, self.committed.len());
+                    self.committed.push(false);
+                }
+                Call::Commit(id) | Call::Abort(id) if done => {
+                    self.open.remove(id);
+                    change.into_iter().for_each(|c| self.committed[c] = true);
+                }
+                _ => (),
+            }
+        }
+    }
+
+    /// Whatever the layer does, cuts and all: no page is called committed or dead that was not committed, or abandoned that was.
+    #[test]
+    fn the_word_for_each_page_is_true() {
+        let mut met: BTreeMap<(String, bool), usize> = BTreeMap::new();
+        for seed in 0..150 {
+            let mut lot = Lot(seed);
+            let g = Geometry::new(8 + lot.below(3) as u16, 8, 16);
+            let mut world = World::blank(g);
+            while world.call(&Call::Format(g)).0 == Answer::More {}
+            let pages = g.pages as usize;
+            let mut truth = Truth { of_page: vec![None; g.blocks as usize * pages], open: HashMap::new(), committed: vec![] };
+            let mut under_way = None;
+            for _ in 0..600 {
+                let call = under_way.take().unwrap_or_else(|| lot.call(g.logical));
+                if lot.below(60) > 0 {
+                    let (answer, op) = world.call(&call);
+                    truth.follows(&call, answer == Answer::Done, op, pages);
+                    under_way = (answer == Answer::More).then_some(call);
+                } else {
+                    let how = [How::None, How::All, How::First(Amount::Percent(50)), How::ButLast][lot.below(4) as usize];
+                    world.cut(Some(&call), how, "");
+                    let op = world.cut.as_ref().unwrap().op;
+                    truth.follows(&call, how == How::All && matches!(op, Op::Program(_)), op, pages);
+                    truth.open.clear();
+                }
+                let view = world.view();
+                for k in view.scan().filter(|k| world.pages.list[*k].is_whole() && world.pages.list[*k].id != 0) {
+                    let change = truth.of_page[k].expect("a change's page");
+                    let (committed, open) = (truth.committed[change], truth.open.values().any(|c| *c == change));
+                    let right = match view.fates[k] {
+                        Fate::Active => open,
+                        Fate::Committed | Fate::Dead => committed,
+                        Fate::Abandoned => !committed && !open,
+                        Fate::Uncommitted => !open && view.holds[k] == Hold::No,
+                        _ => false,
+                    };
+                    assert!(right, "seed {seed}, page {k}: {:?}, committed {committed}, open {open}", view.fates[k]);
+                    let list: Vec<usize> = view.scan().filter(|j| truth.of_page[*j] == Some(change) && world.pages.list[*j].is_whole()).collect();
+                    assert!(list.iter().all(|j| view.fates[*j] == view.fates[k]));
+                    let in_part = !list.iter().any(|j| world.pages.list[*j].cnt as usize == list.len());
+                    *met.entry((format!("{:?}{}", view.fates[k], if in_part { " in part" } else { "" }), committed)).or_default() += 1;
+                }
+                if world.lost {
+                    assert_eq!(world.call(&Call::Recover(g)).0, Answer::Done);
+                }
+            }
+        }
+        let met: Vec<(&str, bool)> = met.iter().filter(|(_, n)| **n > 50).map(|((fate, committed), _)| (fate.as_str(), *committed)).collect();
+        let all = [
+            ("Abandoned in part", false),
+            ("Active in part", false),
+            ("Committed", true),
+            ("Dead", true),
+            ("Dead in part", true),
+            ("Uncommitted in part", false),
+            ("Uncommitted in part", true),
+        ];
+        assert_eq!(met, all);
     }
 
     #[test]

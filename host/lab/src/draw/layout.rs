@@ -60,8 +60,8 @@ impl Layout {
     pub fn of(geometry: Geometry) -> Layout {
         let (head, head_height, width, gap, left, top) = match geometry.blocks {
             ..=10 => (Head::Block, 42.0, 118.0, 5.0, 28.0, 60.0),
-            ..=20 => (Head::Words, 52.0, 118.0, 5.0, 28.0, 70.0),
-            ..=40 => (Head::Letters, 44.0, 46.0, 4.0, 36.0, 62.0),
+            11..=20 => (Head::Words, 52.0, 118.0, 5.0, 28.0, 70.0),
+            21..=40 => (Head::Letters, 44.0, 46.0, 4.0, 36.0, 62.0),
             _ => (Head::Narrow, 32.0, 21.0, 3.0, 46.0, 80.0),
         };
         let column = width + gap;
