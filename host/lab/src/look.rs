@@ -176,7 +176,7 @@ fn group(view: &View, pages: &[Page], k: usize) -> Group {
 pub struct Words {
     /// What it is, with its number.
     pub one: String,
-    /// Whose it is.
+    /// Whose it is; of a torn one, which is nobody's, how many zero bits it has.
     pub two: String,
     /// A mark's count of pages.
     pub mark: String,
@@ -198,7 +198,7 @@ pub fn words(world: &World, k: usize) -> Words {
         (Class::Erased, _) => Words::default(),
         (Class::Torn, _) => {
             let tell = format!("torn; Zeros {}, counted {}", p.zeros, p.counted);
-            Words { one: "torn".into(), two: "nobody's".into(), tell, ..Words::default() }
+            Words { one: "torn".into(), two: plural(p.counted as usize, "zero"), tell, ..Words::default() }
         }
         (Class::Whole, kind) => {
             let (lpn, version, none) = (format!("LPN {}", p.lpn), format!("v{}", p.ver), String::new);
