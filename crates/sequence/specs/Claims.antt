@@ -1,21 +1,27 @@
 -- What document 01 (docs/PAPERS.md) claims on the way to demand 3, of the worlds of a sequence, each sentence as a theorem.
 use mathlib.Core.Path.{_≡_, refl, sym, _∙_, subst}
-use mathlib.Core.Bool.{true, false, false≢true}
+use mathlib.Core.Bool.{true, false, false≢true, _&&_}
 use Prim.Native.Nat.{ℕ, _<_}
+use native.Mathlib.Omega.{arith}
 use mathlib.Core.List.{List, [], _∷_, _++_}
+use lib.Dec.{ltb}
+use borrow.Author.Tests.{lt-ltb}
 use Rattle.model.specs.Page.{spareOf}
 use Rattle.model.specs.Geometry.{geometryOk, dataPage}
 use Rattle.model.specs.Zones.{entryOf}
 use Rattle.model.specs.Answers.{refused}
 use Rattle.model.specs.World.{World, Op, program}
-use Rattle.model.specs.Frame.{isIdle}
+use Rattle.model.specs.Frame.{lentOk, isIdle}
 use Rattle.model.specs.Transactions.{readAnswer}
-use Rattle.model.specs.Strides.{isCheckpoint, isReclaim, picked}
+use Rattle.model.specs.Strides.{isCheckpoint, isReclaim, picked, formatWorkOk, planFormat}
 use Rattle.model.specs.Commands.{Call, format, recover, begin, write, lone, commit, abort, read, checkpoint, reclaim, plan, carried, exec}
 use Rattle.model.specs.Book.{Book, Event, called, cutIn, cutBetween, blank, tell, story, pageOf, contentAnswer}
-use Rattle.model.specs.Sequence.{fits, Phase, live, dark, Allowed, isRecovery, cutEvent, Step, call, cut, between, back, failed, lost, again, Run, stop, next, Formatted}
+use Rattle.model.specs.Sequence.{fits, Phase, live, dark, Allowed, isRecovery, cutEvent, cutArray, Step, call, cut, between, back, failed, lost, again, Run, stop, next, Formatted}
 use Rattle.model.specs.declared.Geometry.{Geometry}
 use Rattle.model.specs.declared.Work.{Work}
+use Rattle.arrays.specs.Tests.{and-both}
+use Rattle.arrays.specs.Ranges.{InGeometry, geometry-in}
+use Rattle.arrays.specs.Bytelist.{Bytes, true-bytes}
 use Rattle.scanlog.specs.Sublist.{Sublist}
 use Rattle.sequence.specs.Live.{live-reads, scanned}
 use Rattle.sequence.specs.Start.{formatted-live, formatted-idle, some-formatted}
@@ -24,11 +30,19 @@ use Rattle.sequence.specs.UnderWay.{another, GoesOn, More, busy-same, ch
 use Rattle.sequence.specs.Theorem.{LiveAt, Holds, step-holds, run-holds}
 
 -- ---- the worlds of a sequence
--- calls and cuts es after a format of geometry g have led to world w, whose state is not lost
-pub record InSequence (g : Geometry) (es : List Event) (w : World) : Type 0 where
+-- calls and cuts es after a format of geometry g have led to phase p
+pub record Leads (g : Geometry) (es : List Event) (p : Phase) : Type 0 where
   pub start : World
   pub formatted : Formatted g start
-  pub run : Run g (live start) es (live w)
+  pub run : Run g (live start) es p
+
+-- to world w, whose state is not lost
+abbrev pub InSequence : Geometry → List Event → World → Type 0
+InSequence g es w = Leads g es (live w)
+
+-- numbers of 16 bits
+abbrev InShape : Geometry → Type 0
+InShape g = (g .blocks < 65536) × ((g .pages < 65536) × (g .logical < 65536))
 
 -- where a reclaim is under way it can go on to its end
 abbrev Goes : Phase → Type 0
@@ -58,6 +72,10 @@ module _ (g : Geometry) (es : List Event) (w : World) (s : InSequence g es w) wh
   -- they are live, with the book of what happened
   pub sequence-live : LiveAt g w (story (blank g) es)
   sequence-live = run-holds g (blank g) (live (s .start)) es (live w) (s .run) (start-holds g (s .start) (s .formatted))
+
+  in-shape : InShape g
+  in-shape = let h = geometry-in g (subst (λ (h : Geometry). geometryOk h ≡ true) (sequence-live .shape) (sequence-live .world .sound .geometry)) in
+      (omega (arith, h .blocks-most), (omega (arith, h .pages-most), omega (arith, h .logical-most)))
 
   goes : GoesOn w
   goes = goes-run g (blank g) (live (s .start)) es (live w) (s .run) (start-holds g (s .start) (s .formatted)) (start-goes g (s .start) (s .formatted))
@@ -97,6 +115,84 @@ module _ (g : Geometry) (es : List Event) (w : World) (s : InSequence g es w) wh
   -- ---- "Each stride picks anew, in a sequence the same block"
   pub stride-picks-same : exec reclaim w .answer ≡ 255 → picked (exec reclaim w .world) ≡ picked w
   stride-picks-same = copy-picks-same w (story (blank g) es) (sequence-live .world)
+
+-- ---- no command is shut out of a sequence
+-- on every world every command but format and recover is allowed
+pub any-call : (g : Geometry) (c : Call) (w : World) → isRecovery c ≡ false → Allowed g c w
+any-call g (format h) w i = absurd (false≢true (sym i))
+any-call g (recover h) w i = absurd (false≢true (sym i))
+any-call g (begin id) w i = tt
+any-call g (write id lpn d) w i = tt
+any-call g (lone lpn d) w i = tt
+any-call g (commit id) w i = tt
+any-call g (abort id) w i = tt
+any-call g (read lpn) w i = tt
+any-call g checkpoint w i = tt
+any-call g reclaim w i = tt
+
+-- so is the recover of its geometry
+pub any-recover : (g : Geometry) (w : World) → Allowed g (recover g) w
+any-recover g w = refl
+
+-- and every format that is refused, as one is whose geometry or buffers are out of range
+pub any-refused : (g h : Geometry) (w : World) → lentOk h w ≡ false → Allowed g (format h) w
+unfolding plan planFormat refused
+any-refused g h w e = rw e refl
+
+-- the arguments that the program's types admit: identifiers of 32 bits, other numbers of 16, data bytes
+abbrev pub Admitted : Call → Type 0
+Admitted (format g) = InShape g
+Admitted (recover g) = InShape g
+Admitted (begin id) = id < 4294967296
+Admitted (write id lpn d) = (id < 4294967296) × ((lpn < 65536) × Bytes d)
+Admitted (lone lpn d) = (lpn < 65536) × Bytes d
+Admitted (commit id) = id < 4294967296
+Admitted (abort id) = id < 4294967296
+Admitted (read lpn) = lpn < 65536
+Admitted checkpoint = Unit {0}
+Admitted reclaim = Unit {0}
+
+shape-fits : (g : Geometry) → InShape g → (ltb (g .blocks) 65536 && (ltb (g .pages) 65536 && ltb (g .logical) 65536)) ≡ true
+shape-fits g h = and-both (ltb (g .blocks) 65536) _ (lt-ltb _ _ (h .0)) (and-both (ltb (g .pages) 65536) _ (lt-ltb _ _ (h .1 .0)) (lt-ltb _ _ (h .1 .1)))
+
+-- every call with such arguments fits
+pub any-fits : (c : Call) → Admitted c → fits c ≡ true
+unfolding fits
+any-fits (format g) h = shape-fits g h
+any-fits (recover g) h = shape-fits g h
+any-fits (begin id) h = lt-ltb _ _ h
+any-fits (write id lpn d) h = and-both (ltb id 4294967296) _ (lt-ltb _ _ (h .0)) (and-both (ltb lpn 65536) _ (lt-ltb _ _ (h .1 .0)) (true-bytes d (h .1 .1)))
+any-fits (lone lpn d) h = and-both (ltb lpn 65536) _ (lt-ltb _ _ (h .0)) (true-bytes d (h .1))
+any-fits (commit id) h = lt-ltb _ _ h
+any-fits (abort id) h = lt-ltb _ _ h
+any-fits (read lpn) h = lt-ltb _ _ h
+any-fits checkpoint h = refl
+any-fits reclaim h = refl
+
+run-then : {g : Geometry} {p q r : Phase} {es : List Event} {e : Event} → Run g p es q → Step g q e r → Run g p (es ++ (e ∷ [])) r
+run-then (stop p) s = next s (stop _)
+run-then (next t u) s = next t (run-then u s)
+
+leads-then : {g : Geometry} {es : List Event} {e : Event} {p q : Phase} → Leads g es p → Step g p e q → Leads g (es ++ (e ∷ [])) q
+leads-then l s = record { start = l .start; formatted = l .formatted; run = run-then (l .run) s }
+
+-- in every world of a sequence each of these calls may follow, answered whatever it answers, and may be cut at any bits
+pub record Follows (g : Geometry) (es : List Event) (c : Call) (w : World) : Type 0 where
+  pub answered : InSequence g (es ++ (called c (exec c w .answer) ∷ [])) (exec c w .world)
+  pub cut-off : (lets : List ℕ) → Leads g (es ++ (cutEvent c w lets ∷ [])) (dark (cutArray c w lets))
+
+module _ (g : Geometry) (es : List Event) (w : World) (s : InSequence g es w) where
+  follows : (c : Call) → fits c ≡ true → Allowed g c w → Follows g es c w
+  follows c f a = record { answered = leads-then s (call c w f a); cut-off = λ lets. leads-then s (cut c w lets f a) }
+
+  pub call-follows : (c : Call) → isRecovery c ≡ false → Admitted c → Follows g es c w
+  call-follows c i h = follows c (any-fits c h) (any-call g c w i)
+
+  pub recover-follows : Follows g es (recover g) w
+  recover-follows = follows (recover g) (any-fits (recover g) (in-shape g es w s)) (any-recover g w)
+
+  pub format-follows : (h : Geometry) → Admitted (format h) → lentOk h w ≡ false → Follows g es (format h) w
+  format-follows h f e = follows (format h) (any-fits (format h) f) (any-refused g h w e)
 
 -- ---- every read within a list of events answers as the book has it then
 abbrev pub ReadRight : Geometry → Book → Event → Type 0
