@@ -1,6 +1,5 @@
 //! Replays traces of document 01 (docs/PAPERS.md), call by call, through the proved library and through the plain layer: answer, operation,
-//! array, map, hold and state. The traces are those of ../shared/vectors where that is beside the repository, else the copies kept in traces/.
-//! traces/README.md says what a line means.
+//! array, map, hold and state. traces/README.md says what a line means; traces/counts pins how many steps each trace compares.
 mod common;
 
 use bokuhira::{Call, Geometry, Kind, Place, State, Store, Work, Zones, PAGE, STATE};
@@ -278,33 +277,50 @@ fn replay(layer: Layer, name: &str, text: &str) -> usize {
     compared
 }
 
-/// The folder of the traces.
-fn traces() -> PathBuf {
-    let host = PathBuf::from(env!("CARGO_MANIFEST_DIR"));
-    let shared = host.join("../../shared/vectors");
-    if shared.is_dir() {
-        return shared;
-    }
-    say("vectors: ../shared/vectors is not beside the repository; the copies in host/tests/traces are replayed");
-    host.join("tests/traces")
+/// The name and the text of every trace, and what counts pins.
+fn traces() -> (Vec<(String, String)>, String) {
+    let folder = PathBuf::from(env!("CARGO_MANIFEST_DIR")).join("tests/traces");
+    let read = |path: &PathBuf| std::fs::read_to_string(path).unwrap();
+    let mut files: Vec<PathBuf> = std::fs::read_dir(&folder).unwrap().map(|f| f.unwrap().path()).collect();
+    files.retain(|p| p.extension().is_some_and(|x| x == "txt"));
+    files.sort();
+    let named = |p: &PathBuf| (p.file_name().unwrap().to_string_lossy().into_owned(), read(p));
+    (files.iter().map(named).collect(), read(&folder.join("counts")))
+}
+
+/// A line for each trace: its name and the steps that were compared.
+fn counted(layer: Layer, traces: &[(String, String)]) -> String {
+    traces.iter().map(|(name, text)| format!("{name} {}\n", replay(layer, name, text))).collect()
 }
 
 #[test]
 fn traces_replay() {
-    let mut files: Vec<PathBuf> = std::fs::read_dir(traces()).unwrap().map(|f| f.unwrap().path()).collect();
-    files.retain(|p| p.extension().is_some_and(|x| x == "txt"));
-    files.sort();
+    let (traces, counts) = traces();
     for layer in LAYERS {
-        let mut compared = 0;
-        for file in &files {
-            let name = file.file_name().unwrap().to_string_lossy();
-            let here = replay(layer, &name, &std::fs::read_to_string(file).unwrap());
-            assert!(here > 0, "{name} compares nothing");
-            compared += here;
-        }
-        say(&format!("vectors, {layer:?}: {compared} calls and cuts of {} files agree", files.len()));
-        assert!(compared > 0, "no trace was compared");
+        let found = counted(layer, &traces);
+        assert_eq!(found, counts, "{layer:?}: other steps were compared than host/tests/traces/counts says");
+        let steps: usize = found.lines().map(|l| number::<usize>(l.split_once(' ').unwrap().1)).sum();
+        say(&format!("vectors, {layer:?}: {steps} calls and cuts of {} files agree", traces.len()));
+        assert!(traces.len() > 20 && steps > 4000, "{steps} steps of {} traces", traces.len());
     }
+}
+
+/// A trace without its last step, one without any, one that is gone and one that nobody counted: the counts are others.
+#[test]
+fn a_trace_that_is_cut_short_is_noticed() {
+    let (traces, counts) = traces();
+    let at = traces.iter().position(|(name, _)| name == "session-11.txt").expect("a trace");
+    let pinned = |traces: &[(String, String)]| counted(Layer::Plain, traces);
+    let line = pinned(&traces[at..=at]);
+    assert!(counts.lines().any(|l| l == line.trim_end()), "{line} is not in counts");
+    let with = |text: &str| pinned(&[(traces[at].0.clone(), text.to_string())]);
+    let last = traces[at].1.trim_end().rfind('\n').expect("a last line");
+    assert!(traces[at].1[last..].contains(" = "), "the last line is no step");
+    assert_ne!(with(&traces[at].1[..last]), line);
+    assert_ne!(with(""), line);
+    assert_ne!(with("# nothing\n"), line);
+    assert_ne!(pinned(&[]), line);
+    assert_ne!(pinned(&[traces[at].clone(), ("more.txt".into(), "blank 8 8 16\n".into())]), line);
 }
 
 #[test]

@@ -106,7 +106,7 @@ fn quoted(name: &str) -> String {
     }
 }
 
-/// A script, line by line; it stops at the first error, and what was done is drawn all the same.
+/// A script, line by line; it stops at the first error, and what was done is drawn all the same. Of a trace it says how much was compared.
 fn run(script: &str, pictures: &[String], out: &mut Out) -> Result<(), String> {
     let text = files::read(script)?;
     let mut session = Session::default();
@@ -126,7 +126,11 @@ fn run(script: &str, pictures: &[String], out: &mut Out) -> Result<(), String> {
         }
     }
     draw_all(&mut session, pictures, out)?;
-    done
+    done?;
+    if session.compared > 0 {
+        out.say(&format!("{} compared: all as the script says\n", words::plural(session.compared, "step")))?;
+    }
+    Ok(())
 }
 
 fn draw_all(session: &mut Session, pictures: &[String], out: &mut Out) -> Result<(), String> {

@@ -25,6 +25,8 @@ pub struct Session {
     pub history: History,
     /// How many commands were carried out.
     pub done: usize,
+    /// How many calls and cuts left all that their lines say, as in a trace.
+    pub compared: usize,
     /// The lines carried out, as they were written; and how many commands came since they were saved, help not counted.
     lines: Vec<String>,
     pub unsaved: usize,
@@ -49,6 +51,7 @@ impl Session {
         };
         let next = self.command(&line, out)?;
         self.done += 1;
+        self.compared += line.expected.as_deref().is_some_and(trace::says_all) as usize;
         if !matches!(line.command, Command::Save(_) | Command::Quit) {
             self.lines.push(written.into());
             self.unsaved += !matches!(line.command, Command::Help(_)) as usize;
@@ -302,5 +305,16 @@ mod tests {
         assert_eq!(session.history.steps.len(), 2);
         assert!(session.line("until-done checkpoint = 0", &mut Vec::new()).is_ok());
         assert_eq!(session.history.steps.len(), 4);
+    }
+
+    #[test]
+    fn a_step_is_compared_where_its_line_says_all() {
+        let mut session = Session::default();
+        for line in ["format-to-the-end 8 8 16 = 0", "begin 5 = 0", "begin 5 = 7 (-) same", "read 3 = 14 -", "read 3 = 14", "begin 6"] {
+            assert!(session.line(line, &mut Vec::new()).is_ok(), "{line}");
+        }
+        assert_eq!(session.compared, 2);
+        assert!(session.line("begin 5 = 8 (-) same", &mut Vec::new()).is_err());
+        assert_eq!(session.compared, 2);
     }
 }

@@ -95,7 +95,7 @@ pub const TOPICS: [(&str, &str); 7] = [
         "traces",
         "These words make worlds by hand and run the traces of the tests. The first five write past the\n\
          layer, as no switch does, and the book does not see it. Behind '=' a line may have all that a trace\n\
-         says of a call; a difference is an error.\n\
+         says of a call; a difference is an error, and 'lab run' ends with how many such lines it compared.\n\
          Example: page 16 \"VLAN 20\" 3 0 5 0 0 0 makes page 16 a whole data page of identifier 5, LPN 3,\n\
          without a mark.",
     ),

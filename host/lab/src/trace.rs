@@ -113,6 +113,11 @@ fn place_of(word: &str) -> Option<Place> {
     Some(place)
 }
 
+/// Whether what is said is all that a trace says of a step, and not the answer alone.
+pub fn says_all(said: &str) -> bool {
+    said.contains([' ', '='])
+}
+
 /// Whether a call's answer and what it left agree with what is said; an error says what was found. A lone number is the answer alone.
 pub fn agrees(said: &str, answer: Answer, op: Op, before: &Store, world: &World) -> Result<(), String> {
     let mut words = said.splitn(2, ' ');
