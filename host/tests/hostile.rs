@@ -303,6 +303,14 @@ impl Maker {
         }
     }
 
+    /// The buffers get the lengths that a geometry asks, unless these are past the largest flash.
+    fn fit(&mut self, world: &mut Store, g: Geometry) {
+        if g.array_len() <= 129 * 65 * PAGE {
+            world.array.resize(g.array_len(), 255);
+            world.map.resize(g.logical as usize, UNMAPPED);
+        }
+    }
+
     /// Spoils one thing.
     fn spoil(&mut self, world: &mut Store, g: Geometry) {
         match self.below(14) {
@@ -335,9 +343,10 @@ impl Maker {
         }
     }
 
-    /// One field of the state gets a value at the edge of its range, or any.
+    /// One field of the state gets a value at the edge of its range, or any. Buffers that fit come with a geometry every second time.
     fn spoil_field(&mut self, world: &mut Store) {
         let Some(mut s) = State::decode(&world.state) else { return };
+        let before = s.geometry;
         let byte = *self.rng.pick(&[0, 1, 2, 3, 7, 8, 9, 63, 64, 65, 127, 128, 129, 255]);
         let half = *self.rng.pick(&[0, 1, 2, 7, 8, 9, 15, 16, 17, 64, 65, 127, 128, 129, 1023, 1024, 1025, 8191, 8192, u16::MAX]);
         let word = *self.rng.pick(&[0, 1, 2, 5, 9, u32::MAX - 3, u32::MAX - 2, u32::MAX - 1, u32::MAX]);
@@ -362,6 +371,9 @@ impl Maker {
                 let k = self.below(s.places[i].ppns.len().max(1));
                 s.places[i].ppns.get_mut(k).into_iter().for_each(|ppn| *ppn = half);
             }
+        }
+        if s.geometry != before && self.rng.once_in(2) {
+            self.fit(world, s.geometry);
         }
         world.state = s.encode();
     }
@@ -422,11 +434,18 @@ impl Maker {
         }
     }
 
-    /// Every command from one world, then a walk from it.
+    /// Every command from one world, then a walk from it. Of a format or recover with another geometry, one with buffers that fit it too.
     fn try_world(&mut self, world: Store, g: Geometry) {
         for kind in 0..10 {
             let call = self.call_of(&world, g, kind);
             self.compare(&mut world.clone(), &call);
+            if let Call::Format(other) | Call::Recover(other) = call {
+                if other != g {
+                    let mut fitted = world.clone();
+                    self.fit(&mut fitted, other);
+                    self.compare(&mut fitted, &call);
+                }
+            }
         }
         let mut world = world;
         let mut call = self.call(&world, g);
@@ -466,6 +485,55 @@ fn any_input_gives_the_same_on_both_layers() {
     }
     for refusal in 1..=17 {
         assert!(met.in_all(refusal) > 0, "refusal {refusal} was never met");
+    }
+}
+
+/// Each bound of the geometry, with array, map and hold of the lengths that it asks: 1 on the one side; on the other a format begins, and zero
+/// bytes have no checkpoint. What holds of the arguments of format and recover holds of the geometry in a state.
+#[test]
+fn the_bounds_of_the_geometry_with_buffers_that_fit() {
+    let inside = [(8, 8, 16), (128, 8, 16), (8, 64, 128), (8, 8, 1), (22, 64, 1024), (23, 64, 1024), (128, 64, 1024), (9, 8, 24), (9, 8, 23)];
+    let outside = [(7, 8, 8), (129, 8, 16), (8, 7, 14), (8, 65, 130), (8, 65, 16), (8, 8, 0), (23, 64, 1025), (128, 64, 1025)];
+    let past_the_reserve = [(8, 8, 17), (8, 8, 24), (9, 8, 25), (9, 8, 32), (21, 64, 961)];
+    let mut maker = Maker::new(17);
+    for (b, p, l) in inside {
+        let g = Geometry::new(b, p, l);
+        let blank = Store::blank(g);
+        assert_eq!(maker.compare(&mut blank.clone(), &Call::Recover(g)), 2, "{g:?}");
+        assert_eq!(maker.compare(&mut blank.clone(), &Call::Format(g)), 255, "{g:?}");
+        let live = formatted(g);
+        assert_eq!(maker.compare(&mut live.clone(), &Call::Recover(g)), 0, "{g:?}");
+        assert_eq!(maker.compare(&mut live.clone(), &Call::Begin(5)), 0, "{g:?}");
+        assert_eq!(maker.compare(&mut live.clone(), &Call::Lone { lpn: l - 1, data: vec![7; DATA] }), 0, "{g:?}");
+        for change in 0..6 {
+            let mut w = live.clone();
+            match change {
+                0 => w.array.push(255),
+                1 => w.array.truncate(g.array_len() - 1),
+                2 => w.map.push(UNMAPPED),
+                3 => w.map.truncate(l as usize - 1),
+                4 => w.hold.push(0),
+                _ => w.hold.truncate(HOLD - 1),
+            }
+            for call in [Call::Recover(g), Call::Format(g), Call::Begin(5)] {
+                assert_eq!(maker.compare(&mut w, &call), 1, "{call:?} of {g:?} with length {change} changed");
+            }
+        }
+    }
+    for (b, p, l) in [&outside[..], &past_the_reserve].concat() {
+        let g = Geometry::new(b, p, l);
+        let mut w = Store::blank(g);
+        w.map.fill(UNMAPPED);
+        let mut state = State::decode(&formatted(Geometry::new(8, 8, 16)).state).expect("a state");
+        (state.geometry, state.zones.free) = (g, vec![5, 6]);
+        w.state = state.encode();
+        for call in [Call::Recover(g), Call::Format(g)] {
+            assert_eq!(maker.compare(&mut w, &call), 1, "{call:?}");
+        }
+        for kind in 2..10 {
+            let call = maker.call_of(&w, Geometry::new(8, 8, 1), kind);
+            assert_eq!(maker.compare(&mut w, &call), 1, "{call:?} on a state of {g:?}");
+        }
     }
 }
 
