@@ -57,7 +57,7 @@ module _ (g : Geometry) (z : Zones) (b : ℕ) (none : Unlisted z b) (inside : da
   none-listed : occ b (availableOf z ++ (unavailableOf z ++ freeOf z)) ≡ 0
   none-listed = omega (arith, occ-append b (availableOf z) (unavailableOf z ++ freeOf z), occ-append b (unavailableOf z) (freeOf z))
 
-  freed-ok : zonesOk g z ≡ true → zonesOk g (freed z b) ≡ true
+  pub freed-ok : zonesOk g z ≡ true → zonesOk g (freed z b) ≡ true
   unfolding freed
   freed-ok h =
       let a = availableOf z in

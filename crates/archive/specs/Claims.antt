@@ -1,0 +1,59 @@
+-- What firmware relies on beside demand 3: there are such sequences, a power-up with any bytes is a step of one, a format handed zeros starts at
+-- its first stride, and every read within a sequence answers as the book has it then.
+use Prim.Native.Nat.{ℕ}
+use mathlib.Core.Path.{_≡_, refl}
+use mathlib.Core.Bool.{true, false}
+use mathlib.Core.List.{List, [], _∷_, _++_}
+use lib.ListN.{length, replicate}
+use Rattle.model.specs.Geometry.{geometryOk}
+use Rattle.model.specs.Frame.{freshState}
+use Rattle.model.specs.Strides.{stridesDone}
+use Rattle.model.specs.Commands.{recover}
+use Rattle.model.specs.Book.{Event, called, blank}
+use Rattle.model.specs.Sequence.{live, Run}
+use Rattle.model.specs.declared.Geometry.{Geometry}
+use Rattle.encoding.specs.Encoding.{workFrom, stateFrom, workCoded, encodes}
+use Rattle.bokuhira.specs.Calls.{startFrom}
+use Rattle.sequence.specs.Start.{some-formatted}
+use Rattle.sequence.specs.Claims.{ReadsRight, reads-right}
+use Rattle.archive.specs.Lent.{Lent, after}
+use Rattle.archive.specs.LentRuns.{LentPhase, on, off, LentStep, LentRun, stridesSaid, LentFormatted}
+use Rattle.archive.specs.Joined.{run-is, formatted-is}
+use Rattle.archive.specs.Theorem.{demand3-bytes}
+use Rattle.archive.specs.EveryRun.{every-run}
+use Rattle.archive.specs.Coded.{lentOf}
+
+-- ---- a format starts at its first stride
+-- with zeros for the state
+pub zeros-start : (g : Geometry) → stridesSaid g (replicate 2366 0) ≡ 0
+unfolding stridesSaid startFrom stridesDone encodes workCoded stateFrom workFrom
+zeros-start g = refl
+
+-- and with any bytes that encode none
+pub none-starts : (g : Geometry) (bs : List ℕ) → encodes bs ≡ false → stridesSaid g bs ≡ 0
+unfolding stridesSaid startFrom stridesDone freshState
+none-starts g bs e = rw e
+
+-- ---- there are sequences, for every geometry in range
+pub some-lent : (g : Geometry) → geometryOk g ≡ true → (l : Lent) × LentFormatted g l
+some-lent g ok = let f = some-formatted g ok in (lentOf (f .0), every-run g (f .0) [] (live (f .0)) (f .1) (Run.stop (live (f .0))) .0)
+
+-- ---- power-up
+append-run : (g : Geometry) (p : LentPhase) (es : List Event) (q : LentPhase) (fs : List Event) (r : LentPhase) → LentRun g p es q → LentRun g q fs r → LentRun g p (es ++ fs) r
+append-run g p es q fs r (LentRun.stop p′) u = u
+append-run g p es q fs r (LentRun.next {q = p′} {es = ds} s t) u = LentRun.next s (append-run g p′ ds q fs r t u)
+
+module _ (g : Geometry) (l : Lent) (es : List Event) (f : LentFormatted g l) (map hold bs : List ℕ) (wide : length map ≡ g .logical) (deep : length hold ≡ 4096) (long : length bs ≡ 2366) where
+  -- wherever a cut lost the state, a recover with any 2,366 bytes goes on with the sequence
+  pub power-up : (xs : List ℕ) → LentRun g (on l) es (off xs)
+      → LentRun g (on l) (es ++ (called (recover g) 0 ∷ [])) (on (after (recover g) (record { array = xs; map = map; hold = hold; bytes = bs })))
+  power-up xs r =
+      let k = demand3-bytes g l es (off xs) f r .recovers map hold bs wide deep long in
+      append-run g (on l) es (off xs) _ _ r (LentRun.next (LentStep.back (record { array = xs; map = map; hold = hold; bytes = bs }) (k .succeeds)) (LentRun.stop _))
+
+-- ---- every read within a list of events answers as the book has it then
+pub reads-right-bytes : (g : Geometry) (l : Lent) (es : List Event) (p : LentPhase) → LentFormatted g l → LentRun g (on l) es p → ReadsRight g (blank g) es
+reads-right-bytes g l es p f r =
+    let w = formatted-is g l f in
+    let j = run-is g (on l) es p r (live (w .0)) (w .1 .1) in
+    reads-right g (w .0) es (j .phase) (w .1 .0) (j .run)

@@ -1,0 +1,11 @@
+pub mod Lent
+pub mod LentRuns
+pub mod Statement
+pub mod Zones
+pub mod Shaped
+pub mod Coded
+pub mod Reads
+pub mod Joined
+pub mod Theorem
+pub mod EveryRun
+pub mod Claims

@@ -1,0 +1,88 @@
+-- Demand 3 of what firmware links: the run of the C interface is a run of `model`, where demand 3 is proved, and what it says of a world holds of
+-- the world's bytes. Assumes nothing.
+use Prim.Native.Nat.{ℕ}
+use mathlib.Core.Path.{_≡_, sym, ap, _∙_, subst}
+use mathlib.Core.List.{List}
+use lib.ListN.{length}
+use borrow.Author.Tests.{eq-eqb}
+use Rattle.model.specs.Answers.{refused}
+use Rattle.model.specs.World.{World}
+use Rattle.model.specs.Commands.{recover, exec}
+use Rattle.model.specs.Book.{Event, Book, never, blank, story}
+use Rattle.model.specs.Sequence.{Phase, live, dark, arrayOf}
+use Rattle.model.specs.Demand3.{Reads, Recovers, LiveReads, Kept}
+use Rattle.model.specs.declared.Geometry.{Geometry}
+use Rattle.encoding.specs.StateBack.{Shaped, coded-back}
+use Rattle.bokuhira.specs.Calls.{Result, resultOf, startFrom, sized}
+use Rattle.sequence.specs.Theorem.{demand3, formatReads}
+use Rattle.archive.specs.Lent.{Lent, bokuhira, lentIn, after}
+use Rattle.archive.specs.LentRuns.{LentPhase, on, off, lentArray}
+use Rattle.archive.specs.Statement.{LentReadsAs, LentRight, LentRecovers, LentLive, LentKept, Demand3Bytes, FormatReadsBytes}
+use Rattle.archive.specs.Coded.{lentOf, resultFor, call-is, startOf, Does, started-sized, recover-does}
+use Rattle.archive.specs.Reads.{reads-as}
+use Rattle.archive.specs.Joined.{Says, Agrees, run-is, formatting-is, formatted-is}
+
+-- ---- what is right of a world is right of its bytes
+world-right : (w : World) → Shaped (w .state) → (g : Geometry) (b : Book) → Reads g b w → LentRight g b (lentOf w)
+world-right w h g b r = record { coded = coded-back (w .state) h; reads = λ lpn l. reads-as w h lpn _ (r lpn l) }
+
+said-right : (l : Lent) (w : World) (g : Geometry) (b : Book) → Says l w → Reads g b w → LentRight g b l
+said-right l w g b s r = subst (LentRight g b) (sym (s .is)) (world-right w (s .shaped) g b r)
+
+-- ---- a recovery with any 2,366 bytes
+module _ (g : Geometry) (b : Book) (l : Lent) (long : length (l .bytes) ≡ 2366) (k : Recovers g b (startOf g l)) where
+  -- the world that it leads to
+  abbrev found : World
+  found = exec (recover g) (startOf g l) .world
+
+  succeeds : bokuhira (recover g) l .answer ≡ 0
+  unfolding bokuhira sized resultOf
+  succeeds = rw (started-sized recover g l (eq-eqb (length (l .bytes)) 2366 long)) (k .succeeds)
+
+  does : Does (recover g) l (startOf g l)
+  does = recover-does g l (unfold refused in rw succeeds)
+
+  lent-recovers : LentRecovers g b l
+  lent-recovers = record {
+    succeeds = succeeds;
+    right = said-right (after (recover g) l) found g b (record { is = ap lentIn (does .is); shaped = does .shaped }) (k .reads);
+    again = ap (λ (r : Result). bokuhira (recover g) (lentIn r)) (does .is) ∙ call-is found (does .shaped) (recover g) ∙ ap resultFor (k .again ∙ sym done) ∙ sym (does .is);
+  }
+    where
+      done : exec (recover g) (startOf g l) ≡ record { answer = 0; world = found }
+      done = rw (k .succeeds)
+
+-- ---- where phases agree
+same-array : (p : LentPhase) (p′ : Phase) → Agrees p p′ → arrayOf p′ ≡ lentArray p
+same-array (on l) (live w) s = sym (ap (λ (m : Lent). m .array) (s .is))
+same-array (off xs) (dark ys) s = sym s
+same-array (on l) (dark xs) s = absurd s
+same-array (off xs) (live w) s = absurd s
+
+lent-live : (g : Geometry) (b : Book) (p : LentPhase) (p′ : Phase) → Agrees p p′ → LiveReads g b p′ → LentLive g b p
+lent-live g b (on l) (live w) s r = said-right l w g b s r
+lent-live g b (off xs) (dark ys) s r = tt
+lent-live g b (on l) (dark xs) s r = absurd s
+lent-live g b (off xs) (live w) s r = absurd s
+
+lent-kept : (g : Geometry) (es : List Event) (p : LentPhase) (p′ : Phase) → Agrees p p′ → Kept g es p′ → LentKept g es p
+lent-kept g es p p′ s k = record {
+  recovers = λ map hold bs wide deep long.
+      lent-recovers g (story (blank g) es) _ long
+      (subst (λ (xs : List ℕ). Recovers g (story (blank g) es) (record { array = xs; map = map; hold = hold; state = startFrom g bs })) (same-array p p′ s)
+      (k .recovers map hold (startFrom g bs) wide deep));
+  live = lent-live g (story (blank g) es) p p′ s (k .reads);
+}
+
+-- ---- the theorem
+pub demand3-bytes : Demand3Bytes
+demand3-bytes g l es p f r =
+    let w = formatted-is g l f in
+    let j = run-is g (on l) es p r (live (w .0)) (w .1 .1) in
+    lent-kept g es p (j .phase) (j .agrees) (demand3 g (w .0) es (j .phase) (w .1 .0) (j .run))
+
+-- between two strides of the format every page is never written
+pub formatReads-bytes : FormatReadsBytes
+formatReads-bytes g l f lpn i =
+    let w = formatting-is g l f in
+    subst (λ (m : Lent). LentReadsAs m lpn never) (sym (w .1 .1 .is)) (reads-as (w .0) (w .1 .1 .shaped) lpn _ (formatReads g (w .0) (w .1 .0) lpn i))
