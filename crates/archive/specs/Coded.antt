@@ -79,7 +79,12 @@ sized-long bs e = eqb-true (length bs) 2366 e
 pub coded-shaped : (bs : List ℕ) → encodes bs ≡ true → Shaped (stateFrom bs)
 coded-shaped bs e = from-shaped bs (sized-long bs (coded-sized bs e))
 
--- the state that format and recover start from, whatever the bytes
+-- the state that format and recover start from: what the bytes say
+start-coded : (g : Geometry) (bs : List ℕ) → encodes bs ≡ true → startFrom g bs ≡ stateFrom bs
+unfolding startFrom
+start-coded g bs e = rw e
+
+-- and shaped whatever they are
 pub start-shaped : (g : Geometry) (bs : List ℕ) → sized bs ≡ true → Shaped (startFrom g bs)
 unfolding startFrom
 start-shaped g bs e = go (encodes bs)
@@ -101,6 +106,24 @@ pub stored : (bs : List ℕ) (o : Outcome) → refused (o .answer) ≡ false →
 unfolding resultOf
 stored bs o e = rw e
 
+-- ---- format and recover on any bytes
+-- the world that they start from
+abbrev pub startOf : Geometry → Lent → World
+startOf g l = worldOf (l .array) (l .map) (l .hold) (startFrom g (l .bytes))
+
+module _ (c : Geometry → Call) (g : Geometry) (l : Lent) where
+  abbrev pub startedOn : Result
+  startedOn = started c g (l .array) (l .map) (l .hold) (l .bytes)
+
+  pub started-sized : sized (l .bytes) ≡ true → startedOn ≡ resultOf (l .bytes) (exec (c g) (startOf g l))
+  unfolding started
+  started-sized e = rw e
+
+  pub started-other : sized (l .bytes) ≡ false → startedOn .answer ≡ 1
+  unfolding started
+  started-other e = rw e
+
+-- ---- a call on a world's bytes
 module _ (w : World) (h : Shaped (w .state)) where
   -- a refusal changes nothing, so the bytes are those of the state after it too
   kept : (c : Call) → resultOf (bytesOf (w .state)) (exec c w) ≡ resultFor (exec c w)
@@ -117,9 +140,10 @@ module _ (w : World) (h : Shaped (w .state)) where
   unfolding called
   called-is c = rw (coded-back (w .state) h, state-back (w .state) h)
 
-  started-is : (c : Geometry → Call) (g : Geometry) → started c g (w .array) (w .map) (w .hold) (bytesOf (w .state)) ≡ resultOf (bytesOf (w .state)) (exec (c g) w)
-  unfolding started startFrom
-  started-is c g = rw (coded-sized (bytesOf (w .state)) (coded-back (w .state) h), coded-back (w .state) h, state-back (w .state) h)
+  started-is : (c : Geometry → Call) (g : Geometry) → startedOn c g (lentOf w) ≡ resultOf (bytesOf (w .state)) (exec (c g) w)
+  started-is c g =
+      let e = coded-back (w .state) h in
+      started-sized c g (lentOf w) (coded-sized (bytesOf (w .state)) e) ∙ rw (start-coded g (bytesOf (w .state)) e, state-back (w .state) h)
 
   -- a call on it answers and leaves what the model's does
   pub call-is : (c : Call) → bokuhira c (lentOf w) ≡ resultFor (exec c w)
@@ -151,9 +175,9 @@ takes-coded reclaim bs e = e
 
 -- it is the one that the slices say
 world-coded : (c : Call) (l : Lent) → encodes (l .bytes) ≡ true → worldIn c l ≡ worldFrom (l .array) (l .map) (l .hold) (l .bytes)
-unfolding worldIn startFrom
-world-coded (format g) l e = rw e
-world-coded (recover g) l e = rw e
+unfolding worldIn
+world-coded (format g) l e = rw (start-coded g (l .bytes) e)
+world-coded (recover g) l e = rw (start-coded g (l .bytes) e)
 world-coded (begin id) l e = refl
 world-coded (write id lpn d) l e = refl
 world-coded (lone lpn d) l e = refl
@@ -171,36 +195,21 @@ module _ (w : World) (h : Shaped (w .state)) where
   world-back c = world-coded c (lentOf w) (coded-back (w .state) h) ∙ rw (state-back (w .state) h)
 
 -- ---- a format or a recover that is not refused, whatever the bytes
--- the world that it starts from
-abbrev pub startOf : Geometry → Lent → World
-startOf g l = worldOf (l .array) (l .map) (l .hold) (startFrom g (l .bytes))
-
 -- a call answers and leaves what the model's does on world w, and the bytes then are those of the state after it
 pub record Does (c : Call) (l : Lent) (w : World) : Type 0 where
   pub is : bokuhira c l ≡ resultFor (exec c w)
   pub shaped : Shaped (exec c w .world .state)
 
 module _ (c : Geometry → Call) (g : Geometry) (l : Lent) where
-  abbrev pub startedOn : Result
-  startedOn = started c g (l .array) (l .map) (l .hold) (l .bytes)
-
-  pub started-sized : sized (l .bytes) ≡ true → startedOn ≡ resultOf (l .bytes) (exec (c g) (startOf g l))
-  unfolding started
-  started-sized e = rw e
-
-  pub started-other : sized (l .bytes) ≡ false → startedOn .answer ≡ 1
-  unfolding started
-  started-other e = rw e
-
-  starts : bokuhira (c g) l ≡ startedOn → refused (startedOn .answer) ≡ false → Does (c g) l (startOf g l)
+  starts : bokuhira (c g) l ≡ startedOn c g l → refused (startedOn c g l .answer) ≡ false → Does (c g) l (startOf g l)
   starts b r = go (decide (sized (l .bytes)))
     where
       go : (sized (l .bytes) ≡ true) ⊎ (sized (l .bytes) ≡ false) → Does (c g) l (startOf g l)
       go (inl e) = record {
-        is = b ∙ started-sized e ∙ stored (l .bytes) (exec (c g) (startOf g l)) (unfold resultOf in (rw (started-sized e) at r));
+        is = b ∙ started-sized c g l e ∙ stored (l .bytes) (exec (c g) (startOf g l)) (unfold resultOf in (rw (started-sized c g l e) at r));
         shaped = shaped-after (startOf g l) (start-shaped g (l .bytes) e) (c g);
       }
-      go (inr e) = clash {t = refused (startedOn .answer)} (unfold refused in rw (started-other e)) r
+      go (inr e) = clash {t = refused (startedOn c g l .answer)} (unfold refused in rw (started-other c g l e)) r
 
 module _ (g : Geometry) (l : Lent) where
   pub format-does : refused (bokuhira (format g) l .answer) ≡ false → Does (format g) l (startOf g l)

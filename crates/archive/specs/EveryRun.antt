@@ -157,14 +157,14 @@ asked g reclaim w i a = absurd (false≢true i)
 allowed-lent : (g : Geometry) (c : Call) (w : World) (l : Lent) → bokuhira c l .answer ≡ exec c w .answer → Allowed g c w → LentAllowed g c l
 allowed-lent g (format h) w l e a = rw e (unfold exec carried in a)
 allowed-lent g (recover h) w l e a = a
-allowed-lent g (begin id) w l e a = a
-allowed-lent g (write id lpn d) w l e a = a
-allowed-lent g (lone lpn d) w l e a = a
-allowed-lent g (commit id) w l e a = a
-allowed-lent g (abort id) w l e a = a
-allowed-lent g (read lpn) w l e a = a
-allowed-lent g checkpoint w l e a = a
-allowed-lent g reclaim w l e a = a
+allowed-lent g (begin id) w l e a = tt
+allowed-lent g (write id lpn d) w l e a = tt
+allowed-lent g (lone lpn d) w l e a = tt
+allowed-lent g (commit id) w l e a = tt
+allowed-lent g (abort id) w l e a = tt
+allowed-lent g (read lpn) w l e a = tt
+allowed-lent g checkpoint w l e a = tt
+allowed-lent g reclaim w l e a = tt
 
 -- ---- the steps
 step-lent : (g : Geometry) (p : Phase) (e : Event) (q : Phase) → Step g p e q → ShapedPhase p → LentStep g (phaseOf p) e (phaseOf q) × ShapedPhase q

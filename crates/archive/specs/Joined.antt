@@ -65,14 +65,14 @@ module _ (l : Lent) (w : World) (s : Says l w) where
 allowed-is : (g : Geometry) (c : Call) (l : Lent) (w : World) → bokuhira c l .answer ≡ exec c w .answer → LentAllowed g c l → Allowed g c w
 allowed-is g (format h) l w e a = unfold exec carried in (rw e at a)
 allowed-is g (recover h) l w e a = a
-allowed-is g (begin id) l w e a = a
-allowed-is g (write id lpn d) l w e a = a
-allowed-is g (lone lpn d) l w e a = a
-allowed-is g (commit id) l w e a = a
-allowed-is g (abort id) l w e a = a
-allowed-is g (read lpn) l w e a = a
-allowed-is g checkpoint l w e a = a
-allowed-is g reclaim l w e a = a
+allowed-is g (begin id) l w e a = tt
+allowed-is g (write id lpn d) l w e a = tt
+allowed-is g (lone lpn d) l w e a = tt
+allowed-is g (commit id) l w e a = tt
+allowed-is g (abort id) l w e a = tt
+allowed-is g (read lpn) l w e a = tt
+allowed-is g checkpoint l w e a = tt
+allowed-is g reclaim l w e a = tt
 
 -- ---- a recover or a format after a cut
 -- a world with no hold answers 1, as a call does with bytes that are not 2,366
