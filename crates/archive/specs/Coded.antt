@@ -106,6 +106,14 @@ pub stored : (bs : List ℕ) (o : Outcome) → refused (o .answer) ≡ false →
 unfolding resultOf
 stored bs o e = rw e
 
+-- a call answers and leaves what the model's does on world w, and the bytes then are those of the state after it
+pub record Does (c : Call) (l : Lent) (w : World) : Type 0 where
+  pub is : bokuhira c l ≡ resultFor (exec c w)
+  pub shaped : Shaped (exec c w .world .state)
+
+pub does-answer : (c : Call) (l : Lent) (w : World) → Does c l w → bokuhira c l .answer ≡ exec c w .answer
+does-answer c l w d = ap (λ (r : Result). r .answer) (d .is)
+
 -- ---- format and recover on any bytes
 -- the world that they start from
 abbrev pub startOf : Geometry → Lent → World
@@ -145,8 +153,7 @@ module _ (w : World) (h : Shaped (w .state)) where
       let e = coded-back (w .state) h in
       started-sized c g (lentOf w) (coded-sized (bytesOf (w .state)) e) ∙ rw (start-coded g (bytesOf (w .state)) e, state-back (w .state) h)
 
-  -- a call on it answers and leaves what the model's does
-  pub call-is : (c : Call) → bokuhira c (lentOf w) ≡ resultFor (exec c w)
+  call-is : (c : Call) → bokuhira c (lentOf w) ≡ resultFor (exec c w)
   unfolding bokuhira
   call-is (format g) = started-is format g ∙ kept (format g)
   call-is (recover g) = started-is recover g ∙ kept (recover g)
@@ -158,6 +165,9 @@ module _ (w : World) (h : Shaped (w .state)) where
   call-is (read lpn) = rw read-same (unfold readCalled foundOf in rw (coded-back (w .state) h, state-back (w .state) h))
   call-is checkpoint = called-is checkpoint ∙ kept checkpoint
   call-is reclaim = called-is reclaim ∙ kept reclaim
+
+  pub call-does : (c : Call) → Does c (lentOf w) w
+  call-does c = record { is = call-is c; shaped = shaped-after w h c }
 
 -- ---- the world that a call works on
 takes-coded : (c : Call) (bs : List ℕ) → encodes bs ≡ true → takes c bs ≡ true
@@ -195,11 +205,6 @@ module _ (w : World) (h : Shaped (w .state)) where
   world-back c = world-coded c (lentOf w) (coded-back (w .state) h) ∙ rw (state-back (w .state) h)
 
 -- ---- a format or a recover that is not refused, whatever the bytes
--- a call answers and leaves what the model's does on world w, and the bytes then are those of the state after it
-pub record Does (c : Call) (l : Lent) (w : World) : Type 0 where
-  pub is : bokuhira c l ≡ resultFor (exec c w)
-  pub shaped : Shaped (exec c w .world .state)
-
 module _ (c : Geometry → Call) (g : Geometry) (l : Lent) where
   starts : bokuhira (c g) l ≡ startedOn c g l → refused (startedOn c g l .answer) ≡ false → Does (c g) l (startOf g l)
   starts b r = go (decide (sized (l .bytes)))

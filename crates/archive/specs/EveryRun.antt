@@ -1,5 +1,5 @@
 -- Nothing is lost by going to the C interface: every run of `model` from a formatted world is the run of what a caller lends, with the same events.
--- A cut loses the state, so a recover after it may be handed any bytes, and a state that no bytes encode is none that matters. Assumes nothing.
+-- `model` hands a recover after a cut any state, also one that no bytes encode: it does the same with the bytes of a fresh one. Assumes nothing.
 use Prim.Native.Nat.{ℕ, _-_}
 use mathlib.Core.Path.{_≡_, refl, sym, ap, _∙_, subst}
 use mathlib.Core.Bool.{Bool, true, false, not, cond, _&&_, false≢true}
@@ -25,7 +25,7 @@ use Rattle.bokuhira.specs.PowerUp.{blind}
 use Rattle.archive.specs.Lent.{Lent, bokuhira, lentIn, cutTells}
 use Rattle.archive.specs.LentRuns.{LentPhase, on, off, LentAllowed, LentStep, LentRun, stridesSaid, LentFormatting, LentFormatted}
 use Rattle.archive.specs.Shaped.{shaped-after}
-use Rattle.archive.specs.Coded.{lentOf, resultFor, stored, coded-sized, call-is, started-sized, started-other}
+use Rattle.archive.specs.Coded.{lentOf, resultFor, stored, coded-sized, call-does, does-answer, started-sized, started-other}
 use Rattle.archive.specs.Joined.{Says, cut-leaves, cut-tells}
 
 -- ---- a phase as a caller has it
@@ -125,7 +125,7 @@ fresh-none : (g : Geometry) → stridesSaid g (bytesOf (freshState g)) ≡ 0
 unfolding stridesSaid startFrom
 fresh-none g = rw (coded-back (freshState g) (fresh-shaped g), state-back (freshState g) (fresh-shaped g)) (unfold stridesDone freshState in refl)
 
--- ---- a recover or a format after a cut, as the interface has it: another array's slices serve as well, if the answer is the same
+-- ---- a recover or a format after a cut: what a caller may lend to have the same answer from the same array
 record Asked (c : Call) (w : World) : Type 0 where
   lent : Lent
   array : lent .array ≡ w .array
@@ -169,15 +169,15 @@ allowed-lent g reclaim w l e a = tt
 -- ---- the steps
 step-lent : (g : Geometry) (p : Phase) (e : Event) (q : Phase) → Step g p e q → ShapedPhase p → LentStep g (phaseOf p) e (phaseOf q) × ShapedPhase q
 step-lent g p e q (Step.call c w f a) h =
-    let k = call-is w h c in
-    let m : bokuhira c (lentOf w) .answer ≡ exec c w .answer = ap (λ (r : Result). r .answer) k in
-    (subst (λ (r : Result). LentStep g (on (lentOf w)) (called c (r .answer)) (on (lentIn r))) k (LentStep.call c (lentOf w) f (allowed-lent g c w (lentOf w) m a)), shaped-after w h c)
+    let d = call-does w h c in
+    let a′ = allowed-lent g c w (lentOf w) (does-answer c (lentOf w) w d) a in
+    (subst (λ (r : Result). LentStep g (on (lentOf w)) (called c (r .answer)) (on (lentIn r))) (d .is) (LentStep.call c (lentOf w) f a′), d .shaped)
 step-lent g p e q (Step.cut c w lets f a) h =
     let s : Says (lentOf w) w = record { is = refl; shaped = h } in
-    let m : bokuhira c (lentOf w) .answer ≡ exec c w .answer = ap (λ (r : Result). r .answer) (call-is w h c) in (
+    let a′ = allowed-lent g c w (lentOf w) (does-answer c (lentOf w) w (call-does w h c)) a in (
       subst (λ (t : Event). LentStep g (on (lentOf w)) t (off (cutArray c w lets))) (cut-tells (lentOf w) w s c lets)
           (subst (λ (xs : List ℕ). LentStep g (on (lentOf w)) (cutTells c (lentOf w) lets) (off xs)) (cut-leaves (lentOf w) w s c lets)
-          (LentStep.cut c (lentOf w) lets f (allowed-lent g c w (lentOf w) m a))),
+          (LentStep.cut c (lentOf w) lets f a′)),
       tt,
     )
 step-lent g p e q (Step.between w) h = (LentStep.between (lentOf w), tt)
@@ -207,20 +207,20 @@ formatting-lent : (g : Geometry) (w : World) → Formatting g w → LentFormatti
 formatting-lent g v (Formatting.first w z a) =
     let e = first-same g w z a in
     let f = fresh g w in
-    let k : bokuhira (format g) (lentOf f) ≡ resultFor (exec (format g) w) = call-is f (fresh-shaped g) (format g) ∙ ap resultFor e in (
+    let k : bokuhira (format g) (lentOf f) ≡ resultFor (exec (format g) w) = call-does f (fresh-shaped g) (format g) .is ∙ ap resultFor e in (
       subst (λ (t : Result). LentFormatting g (lentIn t)) k (LentFormatting.first (lentOf f) (fresh-none g) (ap (λ (t : Result). t .answer) k ∙ a)),
       subst (λ (o : Outcome). Shaped (o .world .state)) e (shaped-after f (fresh-shaped g) (format g)),
     )
 formatting-lent g v (Formatting.more w f a) =
     let i = formatting-lent g w f in
-    let k = call-is w (i .1) (format g) in
-    (subst (λ (t : Result). LentFormatting g (lentIn t)) k (LentFormatting.more (lentOf w) (i .0) (ap (λ (t : Result). t .answer) k ∙ a)), shaped-after w (i .1) (format g))
+    let d = call-does w (i .1) (format g) in
+    (subst (λ (t : Result). LentFormatting g (lentIn t)) (d .is) (LentFormatting.more (lentOf w) (i .0) (does-answer (format g) (lentOf w) w d ∙ a)), d .shaped)
 
 formatted-lent : (g : Geometry) (w : World) → Formatted g w → LentFormatted g (lentOf w) × Shaped (w .state)
 formatted-lent g v (Formatted.finished w f a) =
     let i = formatting-lent g w f in
-    let k = call-is w (i .1) (format g) in
-    (subst (λ (t : Result). LentFormatted g (lentIn t)) k (LentFormatted.finished (lentOf w) (i .0) (ap (λ (t : Result). t .answer) k ∙ a)), shaped-after w (i .1) (format g))
+    let d = call-does w (i .1) (format g) in
+    (subst (λ (t : Result). LentFormatted g (lentIn t)) (d .is) (LentFormatted.finished (lentOf w) (i .0) (does-answer (format g) (lentOf w) w d ∙ a)), d .shaped)
 
 pub every-run : (g : Geometry) (w : World) (es : List Event) (p : Phase) → Formatted g w → Run g (live w) es p → LentFormatted g (lentOf w) × LentRun g (on (lentOf w)) es (phaseOf p)
 every-run g w es p f r = let i = formatted-lent g w f in (i .0, run-lent g (live w) es p r (i .1))

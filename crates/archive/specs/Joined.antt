@@ -18,11 +18,10 @@ use Rattle.model.specs.declared.Geometry.{Geometry}
 use Rattle.arrays.specs.Tests.{decide, not-so}
 use Rattle.arrays.specs.Frame.{lent-lengths}
 use Rattle.encoding.specs.StateBack.{Shaped}
-use Rattle.bokuhira.specs.Calls.{Result, worldOf, resultOf, sized}
+use Rattle.bokuhira.specs.Calls.{worldOf, resultOf, sized}
 use Rattle.archive.specs.Lent.{Lent, bokuhira, lentIn, after, takes, worldIn, cutLeaves, cutTells}
 use Rattle.archive.specs.LentRuns.{LentPhase, on, off, LentAllowed, LentStep, LentRun, stridesSaid, LentFormatting, LentFormatted}
-use Rattle.archive.specs.Shaped.{shaped-after}
-use Rattle.archive.specs.Coded.{lentOf, call-is, takes-it, world-back, startOf, Does, format-does, recover-does, startedOn, started-sized, started-other}
+use Rattle.archive.specs.Coded.{lentOf, call-does, takes-it, world-back, startOf, Does, does-answer, format-does, recover-does, startedOn, started-sized, started-other}
 
 -- ---- the agreement
 -- what is lent is the world, its state as bytes
@@ -44,7 +43,7 @@ does-says c l w d = record { is = ap lentIn (d .is); shaped = d .shaped }
 -- ---- a call where they agree
 module _ (l : Lent) (w : World) (s : Says l w) where
   pub said-does : (c : Call) → Does c l w
-  said-does c = record { is = ap (bokuhira c) (s .is) ∙ call-is w (s .shaped) c; shaped = shaped-after w (s .shaped) c }
+  said-does c = subst (λ (m : Lent). Does c m w) (sym (s .is)) (call-does w (s .shaped) c)
 
   said-takes : (c : Call) → takes c (l .bytes) ≡ true
   said-takes c = ap (λ (m : Lent). takes c (m .bytes)) (s .is) ∙ takes-it w (s .shaped) c
@@ -82,7 +81,7 @@ bare xs = worldOf xs [] [] (freshState (record { blocks = 0; pages = 0; logical 
 bare-lent : (g : Geometry) (xs : List ℕ) → lentOk g (bare xs) ≡ false
 bare-lent g xs = not-so (lentOk g (bare xs)) (λ e. omega (arith, lent-lengths g (bare xs) e .hold))
 
-pub bare-refused : (c : Call) (xs : List ℕ) → isRecovery c ≡ true → exec c (bare xs) .answer ≡ 1
+bare-refused : (c : Call) (xs : List ℕ) → isRecovery c ≡ true → exec c (bare xs) .answer ≡ 1
 unfolding exec plan carried planFormat planRecover
 bare-refused (format g) xs r = rw (bare-lent g xs)
 bare-refused (recover g) xs r = rw (bare-lent g xs)
@@ -135,14 +134,14 @@ told {c} e = ap (called c) (sym e)
 step-is : (g : Geometry) (p : LentPhase) (e : Event) (q : LentPhase) → LentStep g p e q → (p′ : Phase) → Agrees p p′ → Stepped g p′ e q
 step-is g p e q (LentStep.call c l f a) (live w) s =
     let d = said-does l w s c in
-    let m : bokuhira c l .answer ≡ exec c w .answer = ap (λ (r : Result). r .answer) (d .is) in
+    let m = does-answer c l w d in
     record {
       phase = live (exec c w .world);
       step = subst (λ (t : Event). Step g (live w) t (live (exec c w .world))) (told m) (Step.call c w f (allowed-is g c l w m a));
       agrees = does-says c l w d;
     }
 step-is g p e q (LentStep.cut c l lets f a) (live w) s =
-    let m : bokuhira c l .answer ≡ exec c w .answer = ap (λ (r : Result). r .answer) (said-does l w s c .is) in
+    let m = does-answer c l w (said-does l w s c) in
     record {
       phase = dark (cutArray c w lets);
       step = subst (λ (t : Event). Step g (live w) t (dark (cutArray c w lets))) (sym (cut-tells l w s c lets)) (Step.cut c w lets f (allowed-is g c l w m a));
@@ -154,7 +153,7 @@ step-is g p e q (LentStep.back l r) (dark xs) s =
     let w = startOf g l in
     record {
       phase = live (exec (recover g) w .world);
-      step = subst (λ (ys : List ℕ). Step g (dark ys) (called (recover g) 0) (live (exec (recover g) w .world))) s (Step.back w (sym (ap (λ (t : Result). t .answer) (d .is)) ∙ r));
+      step = subst (λ (ys : List ℕ). Step g (dark ys) (called (recover g) 0) (live (exec (recover g) w .world))) s (Step.back w (sym (does-answer (recover g) l w d) ∙ r));
       agrees = does-says (recover g) l w d;
     }
 step-is g p e q (LentStep.failed c l i f a r) (dark xs) s =
@@ -199,16 +198,16 @@ pub formatting-is : (g : Geometry) (l : Lent) → LentFormatting g l → (w : Wo
 formatting-is g m (LentFormatting.first l z a) =
     let d = format-does g l (unfold refused in rw a) in
     let w = startOf g l in
-    (exec (format g) w .world, (Formatting.first w (unfold stridesSaid in z) (sym (ap (λ (t : Result). t .answer) (d .is)) ∙ a), does-says (format g) l w d))
+    (exec (format g) w .world, (Formatting.first w (unfold stridesSaid in z) (sym (does-answer (format g) l w d) ∙ a), does-says (format g) l w d))
 formatting-is g m (LentFormatting.more l f a) =
     let k = formatting-is g l f in
     let w = k .0 in
     let d = said-does l w (k .1 .1) (format g) in
-    (exec (format g) w .world, (Formatting.more w (k .1 .0) (sym (ap (λ (t : Result). t .answer) (d .is)) ∙ a), does-says (format g) l w d))
+    (exec (format g) w .world, (Formatting.more w (k .1 .0) (sym (does-answer (format g) l w d) ∙ a), does-says (format g) l w d))
 
 pub formatted-is : (g : Geometry) (l : Lent) → LentFormatted g l → (w : World) × (Formatted g w × Says l w)
 formatted-is g m (LentFormatted.finished l f a) =
     let k = formatting-is g l f in
     let w = k .0 in
     let d = said-does l w (k .1 .1) (format g) in
-    (exec (format g) w .world, (Formatted.finished w (k .1 .0) (sym (ap (λ (t : Result). t .answer) (d .is)) ∙ a), does-says (format g) l w d))
+    (exec (format g) w .world, (Formatted.finished w (k .1 .0) (sym (does-answer (format g) l w d) ∙ a), does-says (format g) l w d))

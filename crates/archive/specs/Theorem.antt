@@ -18,7 +18,7 @@ use Rattle.sequence.specs.Theorem.{demand3, formatReads}
 use Rattle.archive.specs.Lent.{Lent, bokuhira, lentIn, after}
 use Rattle.archive.specs.LentRuns.{LentPhase, on, off, lentArray}
 use Rattle.archive.specs.Statement.{LentReadsAs, LentRight, LentRecovers, LentLive, LentKept, Demand3Bytes, FormatReadsBytes}
-use Rattle.archive.specs.Coded.{lentOf, resultFor, call-is, startOf, Does, started-sized, recover-does}
+use Rattle.archive.specs.Coded.{lentOf, resultFor, call-does, startOf, Does, started-sized, recover-does}
 use Rattle.archive.specs.Reads.{reads-as}
 use Rattle.archive.specs.Joined.{Says, Agrees, run-is, formatting-is, formatted-is}
 
@@ -46,7 +46,7 @@ module _ (g : Geometry) (b : Book) (l : Lent) (long : length (l .bytes) ≡ 2366
   lent-recovers = record {
     succeeds = succeeds;
     right = said-right (after (recover g) l) found g b (record { is = ap lentIn (does .is); shaped = does .shaped }) (k .reads);
-    again = ap (λ (r : Result). bokuhira (recover g) (lentIn r)) (does .is) ∙ call-is found (does .shaped) (recover g) ∙ ap resultFor (k .again ∙ sym done) ∙ sym (does .is);
+    again = ap (λ (r : Result). bokuhira (recover g) (lentIn r)) (does .is) ∙ call-does found (does .shaped) (recover g) .is ∙ ap resultFor (k .again ∙ sym done) ∙ sym (does .is);
   }
     where
       done : exec (recover g) (startOf g l) ≡ record { answer = 0; world = found }
