@@ -9,7 +9,7 @@ use Rattle.model.specs.Geometry.{geometryOk}
 use Rattle.model.specs.Frame.{freshState}
 use Rattle.model.specs.Strides.{stridesDone}
 use Rattle.model.specs.Commands.{recover}
-use Rattle.model.specs.Book.{Event, called, blank}
+use Rattle.model.specs.Book.{Event, called, cutBetween, blank}
 use Rattle.model.specs.Sequence.{live, Run}
 use Rattle.model.specs.declared.Geometry.{Geometry}
 use Rattle.encoding.specs.Encoding.{workFrom, stateFrom, workCoded, encodes}
@@ -50,6 +50,14 @@ module _ (g : Geometry) (l : Lent) (es : List Event) (f : LentFormatted g l) (ma
   power-up xs r =
       let k = demand3-bytes g l es (off xs) f r .recovers map hold bs wide deep long in
       append-run g (on l) es (off xs) _ _ r (LentRun.next (LentStep.back (record { array = xs; map = map; hold = hold; bytes = bs }) (k .succeeds)) (LentRun.stop _))
+
+-- so there is one, for every geometry in range and whatever the RAM holds
+pub some-power-up : (g : Geometry) → geometryOk g ≡ true → (map hold bs : List ℕ) → length map ≡ g .logical → length hold ≡ 4096 → length bs ≡ 2366
+    → (l : Lent) × (LentFormatted g l × LentRun g (on l) (cutBetween ∷ called (recover g) 0 ∷ []) (on (after (recover g) (record { array = l .array; map = map; hold = hold; bytes = bs }))))
+some-power-up g ok map hold bs wide deep long =
+    let s = some-lent g ok in
+    let l = s .0 in
+    (l, (s .1, power-up g l (cutBetween ∷ []) (s .1) map hold bs wide deep long (l .array) (LentRun.next (LentStep.between l) (LentRun.stop _))))
 
 -- ---- every read within a list of events answers as the book has it then
 pub reads-right-bytes : (g : Geometry) (l : Lent) (es : List Event) (p : LentPhase) → LentFormatted g l → LentRun g (on l) es p → ReadsRight g (blank g) es
