@@ -12,7 +12,7 @@ erased-requires c κs = search needs
 
 returns : tie.Need-returns
 unfolding blankAt
-returns c = cc
+returns c = rw (c .erased .ensures, c .before .page-of .ensures .0)
 
 pub is-blank-spec : {M : Type 1} → statement M
 is-blank-spec = tie.close (tie.spec page-of-requires erased-requires returns)

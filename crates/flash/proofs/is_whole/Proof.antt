@@ -15,7 +15,7 @@ whole-requires c κs = search needs
 
 returns : tie.Need-returns
 unfolding wholeAt
-returns c = cc
+returns c = rw (c .whole .ensures, c .before .classify .ensures, c .before .before .page-of .ensures .0)
 
 pub is-whole-spec : {M : Type 1} → statement M
 is-whole-spec = tie.close (tie.spec page-of-requires classify-requires whole-requires returns)

@@ -10,7 +10,7 @@ read-spare-requires : tie.Need-read-spare-requires
 read-spare-requires c κs = search needs
 
 returns : tie.Need-returns
-returns c = cc
+returns c = rw (c .read-spare .ensures, c .before .page-of .ensures .0)
 
 pub spare-at-spec : {M : Type 1} → statement M
 spare-at-spec = tie.close (tie.spec page-of-requires read-spare-requires returns)

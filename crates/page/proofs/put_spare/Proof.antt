@@ -27,7 +27,7 @@ same-length : tie.Need-same-length
 same-length c = simp length-set (omega arith)
 
 returns : tie.Need-returns
-returns c = cc
+returns c = rw (c .before .before .put322 .ensures, c .before .before .before .before .before .before .put32 .ensures, c .before .before .before .before .before .before .before .before .before .before .put162 .ensures, c .before .before .before .before .before .before .before .before .before .before .before .before .before .before .put16 .ensures)
 
 pub put-spare-spec : {M : Type 1} → statement M
 put-spare-spec =

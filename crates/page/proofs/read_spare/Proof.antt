@@ -24,7 +24,7 @@ shared-slice-read-t9 c = search needs
 
 returns : tie.Need-returns
 unfolding spareOf
-returns c = cc
+returns c = rw (c .before .before .before .before .before .word16 .ensures, c .before .before .before .before .word162 .ensures, c .before .before .before .word32 .ensures, c .before .before .word322 .ensures)
 
 pub read-spare-spec : {M : Type 1} → statement M
 read-spare-spec =
