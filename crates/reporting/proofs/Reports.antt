@@ -1,13 +1,13 @@
 -- The report of a recovery, and of an input line by line. Assumes nothing.
 use mathlib.Core.Path.{_≡_, refl, sym, ap, _∙_}
 use mathlib.Core.Bool.{Bool, true, false}
-use mathlib.Core.List.{List, _∷_, _++_, append-nil}
-use Prim.Native.Nat.{ℕ, zero, suc, _≤_, _<_}
+use mathlib.Core.List.{List, _∷_}
+use Prim.Native.Nat.{ℕ, zero, suc, _+_, _≤_, _<_}
 use native.Mathlib.Omega.{arith}
 use lib.ListN.{length, take, replicate}
 use lib.Seq.{length-take-le}
 use Rattle.io.specs.Counts.{Counts}
-use borrow.Author.Tests.{eq-eqb, ne-eqb, lt-ltb, le-ltb}
+use borrow.Author.Tests.{lt-ltb, le-ltb}
 use Rattle.model.specs.World.{World}
 use Rattle.model.specs.Geometry.{geometryOk, blankMap}
 use Rattle.model.specs.Frame.{freshState, lentOk}
@@ -17,40 +17,24 @@ use Rattle.model.specs.declared.Geometry.{Geometry}
 use Rattle.model.specs.declared.State.{State}
 use Rattle.arrays.specs.Tests.{and-left}
 use Rattle.arrays.specs.Ranges.{geometry-in}
-use Rattle.reporting.specs.Input.{says, illFormed, lineOf}
-use Rattle.reporting.specs.Names.{blocksName, pagesName, logicalName, answerName}
-use Rattle.reporting.specs.Text.{numberLine, stateText, Put}
+use Rattle.lines.specs.Input.{says, illFormed, lineOf}
+use Rattle.lines.specs.Names.{blocksName, pagesName, logicalName, answerName}
+use Rattle.lines.specs.Text.{numberLine, Put}
 use Rattle.reporting.specs.Report.{outcomeText, emptyHold, lent, arrayReport, reportOf}
-use Rattle.reporting.proofs.Putting.{puts, put-within}
-
--- ---- a text that is another
-put-is : {a s t b : List ℕ} {at m r : ℕ} → s ≡ t → Put a at s m b r → Put a at t m b r
-put-is {a} {s} {t} {b} {at} e p = record { is = p .is ∙ ap (λ (u : List ℕ). take at a ++ u) e; far = p .far; same = p .same }
+use Rattle.lines.proofs.Putting.{put-within, put-is}
+use Rattle.outcome.specs.Text.{answerText}
+use Rattle.outcome.proofs.Answers.{refused-text}
 
 -- ---- a recovery
--- it refuses
-refused-text : (o : Outcome) → (o .answer ≡ 0 → ⊥) → numberLine answerName (o .answer) ≡ outcomeText o
-unfolding outcomeText
-refused-text o h = rw (ne-eqb _ _ h, append-nil)
-
--- it is done
-done-text : (o : Outcome) → o .answer ≡ 0 → numberLine answerName (o .answer) ++ stateText (o .world .state) (o .world .map) ≡ outcomeText o
-unfolding outcomeText
-done-text o h = rw (eq-eqb _ _ h)
-
 module _ (g : Geometry) (xs map ys map2 hold hold2 : List ℕ) (s t : State) (n k : ℕ)
     (e : _≡_ {A = Outcome} (record { answer = n; world = record { array = ys; map = map2; hold = hold2; state = t } }) (exec (recover g) (record { array = xs; map = map; hold = hold; state = s })))
     (lies : hold ≡ emptyHold) (starts : s ≡ freshState g) (told : k ≡ n) where
   out-is : _≡_ {A = Outcome} (record { answer = n; world = record { array = ys; map = map2; hold = hold2; state = t } }) (exec (recover g) (lent g xs map))
   out-is = e ∙ rw (lies, starts)
 
-  pub recovery-refused : {a b : List ℕ} {m r : ℕ} → (k ≡ 0 → ⊥) → Put a 0 (numberLine answerName k) m b r → m ≤ 8192 → Put a 0 (outcomeText (exec (recover g) (lent g xs map))) 8192 b r
-  recovery-refused h p le = put-is (ap (numberLine answerName) told ∙ refused-text _ (λ z. h (told ∙ z)) ∙ ap outcomeText out-is) (put-within p le)
-
-  pub recovery-done : {a b c : List ℕ} {m r q : ℕ} → k ≡ 0 → Put a 0 (numberLine answerName k) m b r → Put b r (stateText t map2) 6000 c q → m ≤ 2192
-      → Put a 0 (outcomeText (exec (recover g) (lent g xs map))) 8192 c q
-  recovery-done h p p' le =
-      put-is (ap (λ (i : ℕ). numberLine answerName i ++ stateText t map2) told ∙ done-text _ (sym told ∙ h) ∙ ap outcomeText out-is) (put-within (puts p p') (omega arith))
+  pub recovery-told : {a b : List ℕ} {m r : ℕ} → Put a 0 (answerText k t map2) m b r → Put a 0 (outcomeText (exec (recover g) (lent g xs map))) m b r
+  unfolding outcomeText
+  recovery-told p = put-is (ap (λ (i : ℕ). answerText i t map2) told ∙ ap outcomeText out-is) p
 
 -- ---- an array
 -- more than 65,536 bytes
@@ -72,10 +56,10 @@ wide-refused g xs h = go (lentOk g (lent g xs (blankMap g))) refl
     go false e = rw e
 
 pub array-wide : {a b : List ℕ} {m r : ℕ} (g : Geometry) (xs : List ℕ) → length xs ≤ 65536 → 1024 < g .logical → Put a 0 (numberLine answerName 1) m b r → m ≤ 8192 → Put a 0 (arrayReport g xs) 8192 b r
-unfolding arrayReport
+unfolding arrayReport outcomeText
 array-wide g xs h k p le =
     let w = wide-refused g xs k in
-    rw (le-ltb _ _ h) (put-is (ap (numberLine answerName) (sym w) ∙ refused-text _ (λ z. omega (arith, w, z))) (put-within p le))
+    rw (le-ltb _ _ h) (put-is (ap (numberLine answerName) (sym w) ∙ refused-text _ _ _ (λ z. omega (arith, w, z))) (put-within p le))
 
 -- the map lent
 blank : (n m : ℕ) → n ≤ m → take {A = ℕ} n (replicate m 65535) ≡ replicate n 65535
@@ -109,8 +93,12 @@ module _ (input : List ℕ) where
       unfolding reportOf
       all-found l xs h = rw (e, f, h)
 
--- the report stands at the front
-pub at-front : {a t b : List ℕ} {m r : ℕ} → (u : List ℕ) → t ≡ u → Put a 0 t m b r → m ≤ length a → (take r b ≡ u) × Counts r b
-at-front {a} {t} {b} {m} {r} u e p h =
+-- the answer line fits
+pub answer-fits : length answerName + 21 ≤ 8192
+answer-fits = omega arith
+
+-- the report stands at the front of a buffer that has room for it
+pub at-front : {a t b : List ℕ} {m r : ℕ} → (u : List ℕ) → t ≡ u → Put a 0 t m b r → m ≤ 8192 → length a ≡ 8192 → (take r b ≡ u) × Counts r b
+at-front {a} {t} {b} {m} {r} u e p h k =
     let l : r ≤ length b = omega (arith, p .far, p .same) in
     (p .is ∙ e, (l, sym (length-take-le r b l)))

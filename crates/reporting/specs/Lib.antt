@@ -1,4 +1,1 @@
-pub mod Names
-pub mod Input
-pub mod Text
 pub mod Report

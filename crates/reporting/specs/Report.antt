@@ -1,21 +1,22 @@
 -- The report: what the program writes, for every input.
 use Prim.Native.Nat.{ℕ}
 use mathlib.Core.Bool.{cond}
-use mathlib.Core.List.{List, [], _∷_, _++_}
+use mathlib.Core.List.{List}
 use lib.ListN.{length, replicate}
-use lib.Dec.{eqb, ltb}
+use lib.Dec.{ltb}
 use Rattle.model.specs.Geometry.{blankMap}
 use Rattle.model.specs.World.{World}
 use Rattle.model.specs.Frame.{freshState}
 use Rattle.model.specs.Commands.{Outcome, exec, recover}
 use Rattle.model.specs.declared.Geometry.{Geometry}
-use Rattle.reporting.specs.Input.{Line, says, illFormed, lineOf}
-use Rattle.reporting.specs.Names.{blocksName, pagesName, logicalName, answerName}
-use Rattle.reporting.specs.Text.{numberLine, stateText}
+use Rattle.lines.specs.Input.{Line, says, illFormed, lineOf}
+use Rattle.lines.specs.Names.{blocksName, pagesName, logicalName, answerName}
+use Rattle.lines.specs.Text.{numberLine}
+use Rattle.outcome.specs.Text.{answerText}
 
--- "A refusal prints the answer line only"
+-- the answer of a command, and, where it is done, the state and the map
 unfoldable pub outcomeText : Outcome → List ℕ
-outcomeText o = numberLine answerName (o .answer) ++ cond (eqb (o .answer) 0) (stateText (o .world .state) (o .world .map)) []
+outcomeText o = answerText (o .answer) (o .world .state) (o .world .map)
 
 -- a hold in which nothing stands
 unfoldable pub emptyHold : List ℕ

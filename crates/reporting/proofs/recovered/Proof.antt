@@ -1,8 +1,7 @@
--- `reporting::recovered` meets its contract: the answer line, and the others where the recovery is done. Assumes nothing.
+-- `reporting::recovered` meets its contract: the lines of the recovery's answer. Assumes nothing.
 use mathlib.Core.Path.{refl}
-use native.Mathlib.Omega.{arith}
 use Rattle.reporting.specs.Report.{emptyHold}
-use Rattle.reporting.proofs.Reports.{recovery-refused, recovery-done}
+use Rattle.reporting.proofs.Reports.{recovery-told}
 use borrow.Author.Needs.{needs}
 use Rattle.reporting.proofs.recovered.Statement.{statement}
 use Rattle.reporting.proofs.recovered.Tie as tie
@@ -19,14 +18,8 @@ recover-requires c κs = search needs
 number-requires : tie.Need-number-requires
 number-requires c κs = search needs
 
-slice-aggregate-number-line : tie.Need-slice-aggregate-number-line
-slice-aggregate-number-line c = search needs
-
-cast-number-line : tie.Need-cast-number-line
-cast-number-line c = search needs
-
-number-line-requires : tie.Need-number-line-requires
-number-line-requires c κs = search needs
+answer-lines-requires : tie.Need-answer-lines-requires
+answer-lines-requires c κs = search needs
 
 same-length : tie.Need-same-length
 same-length c = search needs
@@ -36,20 +29,7 @@ same-length-2 c = search needs
 
 returns : tie.Need-returns
 unfolding emptyHold
-returns c = recovery-refused _ _ _ _ _ _ _ _ _ _ _ (c .before .before .before .before .before .before .before .before .before .before .before .recover .ensures) refl (c .before .before .before .before .before .before .before .before .before .before .before .before .before .before .fresh .ensures) (c .before .before .before .before .before .before .number .ensures) (c .if1 .taken) (c .before .before .before .number-line .ensures) (omega arith)
-
-state-lines-requires : tie.Need-state-lines-requires
-state-lines-requires c κs = search needs
-
-same-length-3 : tie.Need-same-length-3
-same-length-3 c = search needs
-
-same-length-4 : tie.Need-same-length-4
-same-length-4 c = search needs
-
-returns-2 : tie.Need-returns-2
-unfolding emptyHold
-returns-2 c = recovery-done _ _ _ _ _ _ _ _ _ _ _ (c .before .before .before .before .before .before .before .before .before .before .before .before .before .before .before .before .recover .ensures) refl (c .before .before .before .before .before .before .before .before .before .before .before .before .before .before .before .before .before .before .before .fresh .ensures) (c .before .before .before .before .before .before .before .before .before .before .before .number .ensures) (c .before .before .before .before .before .if1 .left) (c .before .before .before .before .before .before .before .before .number-line .ensures) (c .before .before .state-lines .ensures) (omega arith)
+returns c = recovery-told _ _ _ _ _ _ _ _ _ _ _ (c .before .before .before .before .before .before .before .before .before .before .recover .ensures) refl (c .before .before .before .before .before .before .before .before .before .before .before .before .before .fresh .ensures) (c .before .before .before .before .before .number .ensures) (c .before .before .answer-lines .ensures)
 
 pub recovered-spec : {M : Type 1} → statement M
 recovered-spec =
@@ -59,13 +39,7 @@ recovered-spec =
     slice-aggregate-recover
     recover-requires
     number-requires
-    slice-aggregate-number-line
-    cast-number-line
-    number-line-requires
+    answer-lines-requires
     same-length
     same-length-2
-    returns
-    state-lines-requires
-    same-length-3
-    same-length-4
-    returns-2)
+    returns)

@@ -1,9 +1,9 @@
 -- `reporting::report` meets its contract: line by line, then the array. Assumes nothing.
 use mathlib.Core.Path.{_≡_}
-use native.Mathlib.Omega.{arith}
+use native.Mathlib.Nat.{le-refl}
 use lib.ListN.{length}
-use Rattle.reporting.proofs.Parsing.{line-within, line-found, line-lost}
-use Rattle.reporting.proofs.Reports.{first-lost, second-lost, third-lost, all-found, at-front}
+use Rattle.lines.proofs.Parsing.{line-within, line-found, line-lost}
+use Rattle.reporting.proofs.Reports.{first-lost, second-lost, third-lost, all-found, answer-fits, at-front}
 use borrow.Author.Needs.{needs}
 use Rattle.reporting.proofs.report.Statement.{statement}
 use Rattle.reporting.proofs.report.Tie as tie
@@ -29,7 +29,7 @@ number-line-requires c κs = search needs
 returns : tie.Need-returns
 returns c =
     let l : length (c .before .before .before .before .before .before .before .before .args .out .now) ≡ 8192 = search (needs, c .before .before .before .before .before .before .before .before .good) in
-    at-front _ (first-lost _ (line-lost _ _ _ (c .before .before .before .before .before .line .ensures .0) (c .before .before .before .enum-told .given .1))) (c .number-line .ensures) (omega arith)
+    at-front _ (first-lost _ (line-lost _ _ _ (c .before .before .before .before .before .line .ensures .0) (c .before .before .before .enum-told .given .1))) (c .number-line .ensures) answer-fits l
 
 sub-second : tie.Need-sub-second
 sub-second c = line-within _ _ _ _ (c .before .before .before .line .ensures .1) (c .before .blocks2 .given .1)
@@ -61,7 +61,7 @@ number-line-requires-2 c κs = search needs
 returns-2 : tie.Need-returns-2
 returns-2 c =
     let l : length (c .before .before .before .before .before .before .before .before .before .before .before .before .before .before .args .out .now) ≡ 8192 = search (needs, c .before .before .before .before .before .before .before .before .before .before .before .before .before .before .good) in
-    at-front _ (second-lost _ _ _ (line-found _ _ _ (c .before .before .before .before .before .before .before .before .before .before .before .line .ensures .0) _ _ (c .before .before .before .before .before .before .before .before .before .blocks2 .given .1)) (line-lost _ _ _ (c .before .before .before .before .before .line2 .ensures .0) (c .before .before .before .enum-told2 .given .1))) (c .number-line2 .ensures) (omega arith)
+    at-front _ (second-lost _ _ _ (line-found _ _ _ (c .before .before .before .before .before .before .before .before .before .before .before .line .ensures .0) _ _ (c .before .before .before .before .before .before .before .before .before .blocks2 .given .1)) (line-lost _ _ _ (c .before .before .before .before .before .line2 .ensures .0) (c .before .before .before .enum-told2 .given .1))) (c .number-line2 .ensures) answer-fits l
 
 sub-third : tie.Need-sub-third
 sub-third c = line-within _ _ _ _ (c .before .before .before .line2 .ensures .1) (c .before .pages .given .1)
@@ -93,7 +93,7 @@ number-line-requires-3 c κs = search needs
 returns-3 : tie.Need-returns-3
 returns-3 c =
     let l : length (c .before .before .before .before .before .before .before .before .before .before .before .before .before .before .before .before .before .before .before .before .args .out .now) ≡ 8192 = search (needs, c .before .before .before .before .before .before .before .before .before .before .before .before .before .before .before .before .before .before .before .before .good) in
-    at-front _ (third-lost _ _ _ (line-found _ _ _ (c .before .before .before .before .before .before .before .before .before .before .before .before .before .before .before .before .before .line .ensures .0) _ _ (c .before .before .before .before .before .before .before .before .before .before .before .before .before .before .before .blocks2 .given .1)) _ _ (line-found _ _ _ (c .before .before .before .before .before .before .before .before .before .before .before .line2 .ensures .0) _ _ (c .before .before .before .before .before .before .before .before .before .pages .given .1)) (line-lost _ _ _ (c .before .before .before .before .before .line3 .ensures .0) (c .before .before .before .enum-told3 .given .1))) (c .number-line3 .ensures) (omega arith)
+    at-front _ (third-lost _ _ _ (line-found _ _ _ (c .before .before .before .before .before .before .before .before .before .before .before .before .before .before .before .before .before .line .ensures .0) _ _ (c .before .before .before .before .before .before .before .before .before .before .before .before .before .before .before .blocks2 .given .1)) _ _ (line-found _ _ _ (c .before .before .before .before .before .before .before .before .before .before .before .line2 .ensures .0) _ _ (c .before .before .before .before .before .before .before .before .before .pages .given .1)) (line-lost _ _ _ (c .before .before .before .before .before .line3 .ensures .0) (c .before .before .before .enum-told3 .given .1))) (c .number-line3 .ensures) answer-fits l
 
 sub-array : tie.Need-sub-array
 sub-array c = line-within _ _ _ _ (c .before .before .before .line3 .ensures .1) (c .before .logical .given .1)
@@ -110,7 +110,7 @@ array-report-requires c κs = search needs
 returns-4 : tie.Need-returns-4
 returns-4 c =
     let l : length (c .before .before .before .before .before .before .before .before .before .before .before .before .before .before .before .before .before .before .before .before .before .args .out .now) ≡ 8192 = search (needs, c .before .before .before .before .before .before .before .before .before .before .before .before .before .before .before .before .before .before .before .before .before .good) in
-    at-front _ (all-found _ _ _ (line-found _ _ _ (c .before .before .before .before .before .before .before .before .before .before .before .before .before .before .before .before .before .before .line .ensures .0) _ _ (c .before .before .before .before .before .before .before .before .before .before .before .before .before .before .before .before .blocks2 .given .1)) _ _ (line-found _ _ _ (c .before .before .before .before .before .before .before .before .before .before .before .before .line2 .ensures .0) _ _ (c .before .before .before .before .before .before .before .before .before .before .pages .given .1)) _ _ (line-found _ _ _ (c .before .before .before .before .before .before .line3 .ensures .0) _ _ (c .before .before .before .before .logical .given .1))) (c .array-report .ensures) (omega arith)
+    at-front _ (all-found _ _ _ (line-found _ _ _ (c .before .before .before .before .before .before .before .before .before .before .before .before .before .before .before .before .before .before .line .ensures .0) _ _ (c .before .before .before .before .before .before .before .before .before .before .before .before .before .before .before .before .blocks2 .given .1)) _ _ (line-found _ _ _ (c .before .before .before .before .before .before .before .before .before .before .before .before .line2 .ensures .0) _ _ (c .before .before .before .before .before .before .before .before .before .before .pages .given .1)) _ _ (line-found _ _ _ (c .before .before .before .before .before .before .line3 .ensures .0) _ _ (c .before .before .before .before .logical .given .1))) (c .array-report .ensures) (le-refl 8192) l
 
 pub report-spec : {M : Type 1} → statement M
 report-spec =

@@ -1,0 +1,4 @@
+pub mod Putting
+pub mod Decimals
+pub mod Blocks
+pub mod Parsing

@@ -1,0 +1,35 @@
+-- `lines::put_number` meets its contract: by the digits that `io` gives. Assumes nothing.
+use native.Mathlib.Omega.{arith}
+use Rattle.lines.proofs.Decimals.{few-digits, put-digits}
+use borrow.Author.Needs.{needs}
+use Rattle.lines.proofs.put_number.Statement.{statement}
+use Rattle.lines.proofs.put_number.Tie as tie
+
+decimal-requires : tie.Need-decimal-requires
+decimal-requires c κs = search needs
+
+array-share-prefix-digits : tie.Need-array-share-prefix-digits
+array-share-prefix-digits c = search needs
+
+slice-aggregate-put : tie.Need-slice-aggregate-put
+slice-aggregate-put c = search needs
+
+put-requires : tie.Need-put-requires
+put-requires c κs = omega (arith, few-digits (c .before .before .decimal .last .1 .0) (c .before .before .decimal .result) (c .before .before .before .before .before .args .n) (c .before .before .before .before .before .fits .n .fits) (c .before .before .decimal .ensures .1 .0) (c .before .before .decimal .ensures .0 .1))
+
+same-length : tie.Need-same-length
+same-length c = search needs
+
+returns : tie.Need-returns
+returns c = put-digits (c .before .before .before .before .before .decimal .last .1 .0) (c .before .before .before .before .before .before .before .before .fits .n .fits) (c .before .before .before .before .before .decimal .ensures .0 .1) (c .before .before .before .before .before .decimal .ensures .1 .0) (c .before .before .before .before .before .decimal .ensures .1 .1) (c .before .before .put .ensures)
+
+pub put-number-spec : {M : Type 1} → statement M
+put-number-spec =
+    tie.close
+    (tie.spec
+    decimal-requires
+    array-share-prefix-digits
+    slice-aggregate-put
+    put-requires
+    same-length
+    returns)

@@ -1,0 +1,62 @@
+-- `outcome::state_lines` meets its contract: the six lines put one behind the other. Assumes nothing.
+use native.Mathlib.Omega.{arith}
+use Rattle.outcome.specs.Text.{stateText}
+use Rattle.lines.proofs.Putting.{puts, put-within}
+use borrow.Author.Needs.{needs}
+use Rattle.outcome.proofs.state_lines.Statement.{statement}
+use Rattle.outcome.proofs.state_lines.Tie as tie
+
+slice-aggregate-number-line : tie.Need-slice-aggregate-number-line
+slice-aggregate-number-line c = search needs
+
+cast-number-line : tie.Need-cast-number-line
+cast-number-line c = search needs
+
+number-line-requires : tie.Need-number-line-requires
+number-line-requires c κs = search needs
+
+slice-aggregate-number-line-2 : tie.Need-slice-aggregate-number-line-2
+slice-aggregate-number-line-2 c = search needs
+
+cast-number-line-2 : tie.Need-cast-number-line-2
+cast-number-line-2 c = search needs
+
+number-line-requires-2 : tie.Need-number-line-requires-2
+number-line-requires-2 c κs = search needs
+
+zone-lines-requires : tie.Need-zone-lines-requires
+zone-lines-requires c κs = search needs
+
+mapped-requires : tie.Need-mapped-requires
+mapped-requires c κs = search needs
+
+slice-aggregate-number-line-3 : tie.Need-slice-aggregate-number-line-3
+slice-aggregate-number-line-3 c = search needs
+
+number-line-requires-3 : tie.Need-number-line-requires-3
+number-line-requires-3 c κs = search needs
+
+same-length : tie.Need-same-length
+same-length c = search needs
+
+returns : tie.Need-returns
+unfolding stateText
+returns c =
+    rw (← c .before .before .before .before .before .mapped .ensures) (put-within (puts (puts (puts (c .before .before .before .before .before .before .before .before .before .before .before .before .before .before .before .before .before .before .before .number-line .ensures) (c .before .before .before .before .before .before .before .before .before .before .before .before .before .number-line2 .ensures)) (c .before .before .before .before .before .before .before .before .zone-lines .ensures)) (c .before .before .number-line3 .ensures)) (omega arith))
+
+pub state-lines-spec : {M : Type 1} → statement M
+state-lines-spec =
+    tie.close
+    (tie.spec
+    slice-aggregate-number-line
+    cast-number-line
+    number-line-requires
+    slice-aggregate-number-line-2
+    cast-number-line-2
+    number-line-requires-2
+    zone-lines-requires
+    mapped-requires
+    slice-aggregate-number-line-3
+    number-line-requires-3
+    same-length
+    returns)
