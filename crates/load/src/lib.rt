@@ -15,6 +15,12 @@ use model::Geometry;
 use model::Map;
 use model::Zones;
 
+/// How many front blocks there are.
+const FRONT: usize = Geometry::FRONT_BLOCKS as usize;
+
+/// How many entries a map page has.
+const ENTRIES: usize = Map::ENTRIES_A_PAGE as usize;
+
 /// The entries of the map page k.
 fn load_page(array: &[u8], k: usize, to: &mut [u16])
     requires { ⌜ (k * 528 + 528 ≤ length (now array)) × (length (now to) ≡ 256) ⌝ }
@@ -22,7 +28,7 @@ fn load_page(array: &[u8], k: usize, to: &mut [u16])
 {
     let page = flash::page_of(array, k);
     let mut i: usize = 0;
-    while i < 256 {
+    while i < ENTRIES {
         to[i] = page::word16(page, 2 * i);
         i += 1;
     }
@@ -36,8 +42,8 @@ pub fn load_map(array: &[u8], k: usize, m: usize) -> [u16; 1024]
     let mut entries = [0u16; 1024];
     let mut i: usize = 0;
     while i < m {
-        let a = 256 * i;
-        let e = a + 256;
+        let a = ENTRIES * i;
+        let e = a + ENTRIES;
         load_page(array, k + i, &mut entries[a..e]);
         i += 1;
     }
@@ -106,7 +112,7 @@ pub fn zone_page_ok(g: Geometry, z: &[u8]) -> bool
     let nu = wide(z[6]);
     let nf = wide(z[7]);
     let n = na + nu + nf;
-    if n > (g.blocks as usize) - 2 {
+    if n > (g.blocks as usize) - FRONT {
         return false;
     }
     let a: usize = 8;

@@ -14,6 +14,15 @@ use model::Spare;
 use model::State;
 use model::Zones;
 
+/// How many front blocks there are.
+const FRONT: usize = Geometry::FRONT_BLOCKS as usize;
+
+/// The first data block.
+const FIRST: u8 = Geometry::FRONT_BLOCKS as u8;
+
+/// How many entries a map page has.
+const ENTRIES: usize = Map::ENTRIES_A_PAGE as usize;
+
 /// Whether a geometry is in range.
 pub fn geometry_ok(g: Geometry) -> bool
     ensures { λ r. ⌜ r ≡ geometryOk g ⌝ }
@@ -67,7 +76,7 @@ pub fn lent_ok(g: Geometry, array: &[u8], map: &[u16], hold: &[u8]) -> bool
 pub fn map_pages(g: Geometry) -> usize
     ensures { λ r. ⌜ r ≡ mapPages g ⌝ }
 {
-    (g.logical as usize + 255) / 256
+    (g.logical as usize + 255) / ENTRIES
 }
 
 /// Whether every entry is unmapped, or at least lo, below hi and new.
@@ -103,7 +112,7 @@ pub fn map_ok(g: Geometry, map: &[u16]) -> bool
     requires { ⌜ geometryOk g ≡ true ⌝ }
     ensures { λ r. ⌜ r ≡ mapOk g (now (map .entry)) ⌝ }
 {
-    let lo = 2 * (g.pages as usize);
+    let lo = FRONT * (g.pages as usize);
     let hi = (g.blocks as usize) * (g.pages as usize);
     entries_ok(map, lo, hi)
 }
@@ -118,7 +127,7 @@ fn blocks_new(g: Geometry, list: &[u8]) -> bool
     let mut i: usize = 0;
     while i < list.len() {
         let b = list[i] as usize;
-        if b < 2 {
+        if b < FRONT {
             return false;
         }
         if b >= hi {
@@ -162,7 +171,7 @@ pub fn lists_ok(g: Geometry, list: &[u8], na: usize, nu: usize, pointer: u8) -> 
     if !is_rising(&list[at..]) {
         return false;
     }
-    if pointer < 2 {
+    if pointer < FIRST {
         return false;
     }
     (pointer as u16) < g.blocks
@@ -176,7 +185,7 @@ pub fn zones_ok(g: Geometry, z: Zones) -> bool
     let na = z.na as usize;
     let nu = z.nu as usize;
     let nf = z.nf as usize;
-    if na + nu + nf > (g.blocks as usize) - 2 {
+    if na + nu + nf > (g.blocks as usize) - FRONT {
         return false;
     }
     if na > 3 {

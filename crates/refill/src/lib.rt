@@ -11,6 +11,12 @@ use blocks::Blocks;
 use model::Geometry;
 use model::Zones;
 
+/// How many front blocks there are.
+const FRONT: usize = Geometry::FRONT_BLOCKS as usize;
+
+/// The first data block.
+const FIRST: u8 = Geometry::FRONT_BLOCKS as u8;
+
 /// What is left of the zones when some free blocks are taken.
 pub struct Taken {
     pub available: Blocks,
@@ -39,7 +45,7 @@ fn past_block(g: Geometry, b: u8) -> u8
     if next < g.blocks {
         return b + 1;
     }
-    2
+    FIRST
 }
 
 /// One free block goes to the end of the available list.
@@ -90,11 +96,11 @@ fn data_blocks(g: Geometry) -> Blocks
     requires { ⌜ geometryOk g ≡ true ⌝ }
     ensures { λ r. ⌜ r ≡ blocksOf (upFrom 2 (g .blocks - 2)) ⌝ }
 {
-    let n = (g.blocks - 2) as usize;
+    let n = (g.blocks - Geometry::FRONT_BLOCKS) as usize;
     let mut list = [0u8; 126];
     let mut i: usize = 0;
     while i < n {
-        list[i] = (i + 2) as u8;
+        list[i] = (i + FRONT) as u8;
         i += 1;
     }
     Blocks { list, n }
@@ -110,7 +116,7 @@ pub fn format_zones(g: Geometry) -> Zones
         Taken {
             available: blocks::none(),
             free: data_blocks(g),
-            pointer: 2,
+            pointer: FIRST,
         },
     );
     let a = t.available;
