@@ -17,7 +17,7 @@ use Rattle.model.specs.declared.Geometry.{Geometry}
 use Rattle.model.specs.declared.State.{State}
 use Rattle.arrays.specs.Tests.{and-left}
 use Rattle.arrays.specs.Frame.{gate-passes, frame-in}
-use Rattle.device.proofs.Framed.{getD-same}
+use Rattle.reading.proofs.Reading.{getD-same}
 use Rattle.encoding.specs.Encoding.{encodes, stateFrom, bytesOf}
 use Rattle.bokuhira.specs.Calls.{Result, worldOf, worldFrom, resultOf, badFrame, called, startFrom, sized, started, Found, foundOf, readCalled}
 use Rattle.bokuhira.specs.PowerUp.{blind}

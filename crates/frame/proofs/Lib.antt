@@ -1,3 +1,4 @@
 pub mod Within
 pub mod Places
 pub mod Gates
+pub mod Outcomes

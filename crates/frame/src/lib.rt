@@ -1,15 +1,18 @@
 // Refusals 1 and 17: whether a state may be, with the buffers lent beside it, and whether another command's work is under way.
 ghost use mathlib.Core.Path.{_≡_};
-ghost use mathlib.Core.Bool.{true, _&&_};
+ghost use mathlib.Core.Bool.{true, cond, _&&_};
 ghost use Prim.Native.Nat.{ℕ, _+_, _-_, _*_, _≤_, _<_};
 ghost use lib.ListN.{length, take, drop, getD};
-ghost use lib.Dec.{ltb};
+ghost use lib.Dec.{eqb, ltb};
+ghost use Rattle.model.specs.Answers.{number};
 ghost use Rattle.model.specs.Lists.{all};
 ghost use Rattle.model.specs.Geometry.{geometryOk, lengthsOk, dataPage};
 ghost use Rattle.model.specs.Frame.{noPlace, placeOk, alone, placesOk, formatStrideOk, checkpointStrideOk, workOk, frameOk, isIdle, gate};
 ghost use Rattle.frame.specs.Lent.{Sized};
+use model::Answer;
 use model::Geometry;
 use model::Place;
+use model::Refusal;
 use model::State;
 use model::Work;
 
@@ -228,4 +231,14 @@ pub fn gate(own: bool, s: State, array: &[u8], map: &[u16], hold: &[u8]) -> u8
         return 0;
     }
     17
+}
+
+/// The answer that refuses with number 1 or 17.
+pub fn stopped(n: u8) -> Answer
+    ensures { λ r. ⌜ number r ≡ cond (eqb n 17) 17 1 ⌝ }
+{
+    if n == 17 {
+        return Answer::Refused(Refusal::Busy);
+    }
+    Answer::Refused(Refusal::BadFrame)
 }

@@ -1,23 +1,13 @@
--- `Device::reclaim` meets its contract: refusals 1 and 17, then the stride of the block that is picked. Assumes nothing.
-use Rattle.model.specs.World.{World}
-use Rattle.model.specs.Strides.{reclaimStride}
-use Rattle.model.specs.Commands.{reclaim}
-use Rattle.checkpoint.specs.Found.{foundOf}
-use Rattle.device.proofs.Framed.{gate-passed, frame-fit, frame-pickable}
-use Rattle.device.proofs.Outcomes.{stops}
-use Rattle.device.proofs.Striding.{strides, reclaim-stops, reclaim-goes}
+-- `Device::reclaim` meets its contract: `housekeeping::reclaim` does. Assumes nothing.
 use borrow.Author.Needs.{needs}
 use Rattle.device.proofs.Device.reclaim.Statement.{statement}
 use Rattle.device.proofs.Device.reclaim.Tie as tie
 
-is-reclaim-requires : tie.Need-is-reclaim-requires
-is-reclaim-requires c κs = search needs
+reclaim-requires : tie.Need-reclaim-requires
+reclaim-requires c κs = search needs
 
-gate-requires : tie.Need-gate-requires
-gate-requires c κs = search needs
-
-refused-requires : tie.Need-refused-requires
-refused-requires c κs = search needs
+strode-requires : tie.Need-strode-requires
+strode-requires c κs = search needs
 
 same-length : tie.Need-same-length
 same-length c = search needs
@@ -26,54 +16,7 @@ same-length-2 : tie.Need-same-length-2
 same-length-2 c = search needs
 
 returns : tie.Need-returns
-returns c =
-    let a = c .before .before .before .before .before .before .before .before .before .before .args in
-    let w : World = record { array = a .array .now; map = a .map .now; hold = a .hold .now; state = a .self .state } in
-    stops w reclaim (c .refused .result) _ (c .before .before .gate .result) (c .before .before .gate .ensures) (c .before .if1 .taken) (c .refused .ensures .0) (c .refused .ensures .1)
-    (reclaim-stops w _ (c .before .before .before .before .before .is-reclaim .ensures) _ (c .before .before .gate .ensures) (c .before .if1 .taken))
-
-picked-requires : tie.Need-picked-requires
-picked-requires c κs =
-    let a = c .before .before .before .before .before .before .before .before .before .before .args in
-    let w : World = record { array = a .array .now; map = a .map .now; hold = a .hold .now; state = a .self .state } in
-    frame-pickable w (gate-passed w _ _ (c .before .before .gate .ensures) (c .before .if1 .left))
-
-reclaim-stride-requires : tie.Need-reclaim-stride-requires
-reclaim-stride-requires c κs =
-    let a = c .before .before .before .before .before .before .before .before .before .before .before .before .before .args in
-    let w : World = record { array = a .array .now; map = a .map .now; hold = a .hold .now; state = a .self .state } in
-    (frame-fit w (gate-passed w _ _ (c .before .before .before .before .before .gate .ensures) (c .before .before .before .before .if1 .left)), c .before .before .picked .ensures)
-
-strode-requires : tie.Need-strode-requires
-strode-requires c κs = search needs
-
-same-length-3 : tie.Need-same-length-3
-same-length-3 c = search needs
-
-same-length-4 : tie.Need-same-length-4
-same-length-4 c = search needs
-
-returns-2 : tie.Need-returns-2
-returns-2 c =
-    let a = c .before .before .before .before .before .before .before .before .before .before .before .before .before .before .before .before .before .before .before .args in
-    let w : World = record { array = a .array .now; map = a .map .now; hold = a .hold .now; state = a .self .state } in
-    strides w reclaim (c .strode .result) (λ (v : World). reclaimStride v (foundOf (c .before .before .before .before .before .before .before .before .picked .result))) _ _ _ _ (c .strode .ensures)
-    (reclaim-goes w _ (c .before .before .before .before .before .before .before .before .before .before .before .before .before .before .is-reclaim .ensures) _ (c .before .before .before .before .before .before .before .before .before .before .before .gate .ensures) (c .before .before .before .before .before .before .before .before .before .before .if1 .left) _ (c .before .before .before .before .before .before .before .before .picked .ensures))
-    (c .before .before .before .before .before .reclaim-stride .ensures)
+returns c = rw (c .strode .ensures) (c .before .before .before .before .before .reclaim .ensures)
 
 pub reclaim-spec : {M : Type 1} → statement M
-reclaim-spec =
-    tie.close
-    (tie.spec
-    is-reclaim-requires
-    gate-requires
-    refused-requires
-    same-length
-    same-length-2
-    returns
-    picked-requires
-    reclaim-stride-requires
-    strode-requires
-    same-length-3
-    same-length-4
-    returns-2)
+reclaim-spec = tie.close (tie.spec reclaim-requires strode-requires same-length same-length-2 returns)

@@ -1,8 +1,8 @@
--- `device::held_short` meets its contract: nothing is held, or the zone is asked. Assumes nothing.
+-- `writing::held_short` meets its contract: nothing is held, or the zone is asked. Assumes nothing.
 use borrow.Author.Tests.{eq-eqb, ne-eqb}
 use borrow.Author.Needs.{needs}
-use Rattle.device.proofs.held_short.Statement.{statement}
-use Rattle.device.proofs.held_short.Tie as tie
+use Rattle.writing.proofs.held_short.Statement.{statement}
+use Rattle.writing.proofs.held_short.Tie as tie
 
 returns : tie.Need-returns
 returns c = simp (eq-eqb _ _ (c .if1 .taken))

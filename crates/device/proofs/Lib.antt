@@ -1,4 +1,0 @@
-pub mod Framed
-pub mod Outcomes
-pub mod Reading
-pub mod Striding
