@@ -1,25 +1,26 @@
 -- The starred bench cases of document 01 (docs/PAPERS.md) as one table: a row is a case, its input and what document 01 says of it; one theorem
 -- says that every row holds.
 use Prim.Native.Nat.{ℕ, _+_, _-_, _*_}
-use mathlib.Core.Path.{_≡_, refl}
-use mathlib.Core.Bool.{Bool, true, false}
+use mathlib.Core.Path.{_≡_, refl, ap, _∙_}
+use mathlib.Core.Bool.{Bool, true, false, cond}
 use mathlib.Core.List.{List, [], _∷_, _++_}
 use lib.ListN.{drop, set, replicate}
 use Rattle.model.specs.Lists.{count, padTo}
 use Rattle.model.specs.Bytes.{le16}
 use Rattle.model.specs.Page.{classOf, pageBytes}
+use Rattle.model.specs.Geometry.{geometryOk}
 use Rattle.model.specs.Zones.{Entry, zonesOf}
 use Rattle.model.specs.Recovery.{committed, applied}
 use Rattle.model.specs.World.{World, Plan}
-use Rattle.model.specs.Frame.{freePlace, freshState}
+use Rattle.model.specs.Frame.{freePlace}
 use Rattle.model.specs.Commands.{Call, format, write, plan}
 use Rattle.model.specs.declared.Geometry.{Geometry}
 use Rattle.model.specs.declared.Spare.{Spare}
 use Rattle.model.specs.declared.Class.{Class}
 use Rattle.model.specs.declared.Class.the-variants.{Erased, Whole, Torn}
-use Rattle.model.specs.declared.State.{State}
 use Rattle.model.specs.declared.Work.the-variants.{Idle}
 use Rattle.examples.specs.Unfolded.{go}
+use Rattle.examples.specs.Orders.{lent, format-answers}
 
 -- ---- inputs, and what the rules give for each
 -- a page's data and spare area, of which the spare bytes or Zeros are asked; a page, of which the class is asked; the whole pages of a scan, of
@@ -87,13 +88,9 @@ filled n =
       };
     }
 
--- buffers of the lengths that b blocks of 8 pages want
-unfoldable pub lent : ℕ → World
-unfolding go
-lent b = record { array = replicate (b * 8 * 528) 7; map = replicate 8 0; hold = replicate 4096 0; state = freshState (record { blocks = 0; pages = 0; logical = 0 }) }
-
-abbrev pub formatOf : ℕ → Call
-formatOf b = format (record { blocks = b; pages = 8; logical = 8 })
+-- b blocks of 8 pages
+abbrev pub blocksOf : ℕ → Geometry
+blocksOf b = record { blocks = b; pages = 8; logical = 8 }
 
 -- ---- the table
 pub data Case : Type 0 where
@@ -148,10 +145,14 @@ abbrev pub callRows : List Row
 callRows =
     record { case = j; input = asked (write 5 4 (replicate 512 1)) (filled 15); says = 0 ∷ [] }
     ∷ record { case = j; input = asked (write 5 4 (replicate 512 1)) (filled 16); says = 12 ∷ [] }
-    ∷ record { case = k; input = asked (formatOf 7) (lent 7); says = 1 ∷ [] }
-    ∷ record { case = k; input = asked (formatOf 8) (lent 8); says = 255 ∷ [] }
-    ∷ record { case = k; input = asked (formatOf 128) (lent 128); says = 255 ∷ [] }
-    ∷ record { case = k; input = asked (formatOf 129) (lent 129); says = 1 ∷ [] }
+    ∷ []
+
+abbrev pub formatRows : List Row
+formatRows =
+    record { case = k; input = asked (format (blocksOf 7)) (lent (blocksOf 7)); says = 1 ∷ [] }
+    ∷ record { case = k; input = asked (format (blocksOf 8)) (lent (blocksOf 8)); says = 255 ∷ [] }
+    ∷ record { case = k; input = asked (format (blocksOf 128)) (lent (blocksOf 128)); says = 255 ∷ [] }
+    ∷ record { case = k; input = asked (format (blocksOf 129)) (lent (blocksOf 129)); says = 1 ∷ [] }
     ∷ []
 
 -- ---- every row holds
@@ -164,15 +165,29 @@ unfolding gives
 scan-rows = (refl, (refl, (refl, (refl, (refl, tt)))))
 
 call-rows : Every callRows
-unfolding gives filled lent
-call-rows = (refl, (refl, (refl, (refl, (refl, (refl, tt))))))
+unfolding gives filled
+call-rows = (refl, (refl, tt))
+
+-- the answer of a call is what its row gives
+asked-answer : (x : Call) (w : World) (n : ℕ) → plan x w .answer ≡ n → gives (asked x w) ≡ n ∷ []
+unfolding gives
+asked-answer x w n s = ap (λ (m : ℕ). m ∷ []) s
+
+format-row : (n m : ℕ) → cond (geometryOk (blocksOf n)) 255 1 ≡ m → gives (asked (format (blocksOf n)) (lent (blocksOf n))) ≡ m ∷ []
+format-row n m s = asked-answer (format (blocksOf n)) (lent (blocksOf n)) m (format-answers (blocksOf n) ∙ s)
+
+format-rows : Every formatRows
+unfolding geometryOk
+format-rows = (format-row 7 1 refl, (format-row 8 255 refl, (format-row 128 255 refl, (format-row 129 1 refl, tt))))
 
 every-append : (rs ss : List Row) → Every rs → Every ss → Every (rs ++ ss)
 every-append [] ss x y = y
 every-append (r ∷ rs) ss x y = (x .0, every-append rs ss (x .1) y)
 
 abbrev pub table : List Row
-table = pageRows ++ (scanRows ++ callRows)
+table = pageRows ++ (scanRows ++ (callRows ++ formatRows))
 
 pub starred : Every table
-starred = every-append pageRows (scanRows ++ callRows) page-rows (every-append scanRows callRows scan-rows call-rows)
+starred =
+    every-append pageRows (scanRows ++ (callRows ++ formatRows)) page-rows
+    (every-append scanRows (callRows ++ formatRows) scan-rows (every-append callRows formatRows call-rows format-rows))

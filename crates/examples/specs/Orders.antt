@@ -1,0 +1,318 @@
+-- "Order: 1 first, then 17", then each command's own refusals, over all worlds: each law says which refusal is given whatever comes later in
+-- the order. Beside them: what buffers that fit make of a format, and what a commit and a checkpoint's strides leave alone.
+use Prim.Native.Nat.{ℕ, zero, suc, _+_, _-_, _*_, _<_}
+use mathlib.Core.Path.{_≡_, refl, ap}
+use mathlib.Core.Bool.{Bool, true, false, false≢true, not, cond, _&&_, _||_}
+use mathlib.Core.List.{List, [], _∷_}
+use lib.ListN.{length, getD, replicate, length-replicate}
+use lib.Dec.{leb, ltb, eqb}
+use borrow.Author.Tests.{leb-true, lt-ltb, eq-eqb}
+use native.Mathlib.Omega.{arith}
+use Rattle.model.specs.Lists.{find}
+use Rattle.model.specs.Geometry.{unmapped, geometryOk, lengthsOk, mapPages}
+use Rattle.model.specs.Zones.{hasId, usedIn}
+use Rattle.model.specs.Checkpoint.{Found, nothing, at, newest, loadOk}
+use Rattle.model.specs.Recovery.{pagesGood}
+use Rattle.model.specs.World.{World, Op, none, Plan, refuse}
+use Rattle.model.specs.Frame.{noPlace, freePlace, badId, lentOk, frameOk, isIdle, gate, freshState}
+use Rattle.model.specs.Transactions.{unless, withPlace, withVersion, placeOf, zoneShort, cleanPages, spent, begun, liveId, writePlan, lonePlan, markPlan, forgetPlan, planBegin, planWrite, planLone, planCommit, planAbort, readAnswer}
+use Rattle.model.specs.Strides.{isCheckpoint, withWork, withZones, withNumber, mapStride, zoneStride, pageStride, otherStride, firstStride, checkpointStride, planCheckpoint, mappedIn, picked, lowestFrom, isReclaim, copyStride, freeStride, reclaimStride, planReclaim, stridesDone, formatWorkOk, formatMore, formatStride, planFormat}
+use Rattle.model.specs.Recover.{entriesAt, zonesAt, scannedAt, recoverFrom, planRecover}
+use Rattle.model.specs.Commands.{Call, format, recover, begin, write, lone, commit, abort, read, checkpoint, reclaim, plan}
+use Rattle.model.specs.declared.Geometry.{Geometry}
+use Rattle.model.specs.declared.Place.{Place}
+use Rattle.model.specs.declared.Work.{Work}
+use Rattle.model.specs.declared.Work.the-variants.{Idle, Format, Checkpoint, Reclaim}
+
+-- ---- 1 first, then 17
+-- whatever is under way, and for every command but format and recover
+pub bad-frame-first : (own : Bool) (w : World) → frameOk w ≡ false → gate own w ≡ 1
+unfolding gate
+bad-frame-first own w f = rw f refl
+
+pub busy-next : (w : World) → frameOk w ≡ true → isIdle (w .state .work) ≡ false → gate false w ≡ 17
+unfolding gate
+busy-next w f i = rw (f, i) refl
+
+-- and is then the answer, as of begin
+pub begin-17 : (w : World) (id : ℕ) → gate false w ≡ 17 → plan (begin id) w ≡ refuse w 17
+unfolding plan planBegin
+begin-17 w id b = rw b refl
+
+-- "not for read .. or the command's own next stride"
+pub own-passes : (w : World) → frameOk w ≡ true → gate true w ≡ 0
+unfolding gate
+own-passes w f = rw f (go (isIdle (w .state .work)))
+  where
+    go : (t : Bool) → _≡_ {A = ℕ} (cond (t || true) 0 17) 0
+    go true = refl
+    go false = refl
+
+-- ---- each command, where 1 and 17 pass
+module _ (w : World) (pass : gate false w ≡ 0) where
+  -- begin 6, 7, 9
+  pub begin-6 : (id : ℕ) → badId id ≡ true → plan (begin id) w ≡ refuse w 6
+  unfolding plan planBegin
+  begin-6 id h = rw (pass, h) refl
+
+  pub begin-7 : (id : ℕ) → badId id ≡ false → liveId id w ≡ true → plan (begin id) w ≡ refuse w 7
+  unfolding plan planBegin
+  begin-7 id h k = rw (pass, h, k) refl
+
+  pub begin-9 : (id : ℕ) → badId id ≡ false → liveId id w ≡ false → leb 8 (find (hasId 0) (w .state .places)) ≡ true → plan (begin id) w ≡ refuse w 9
+  unfolding plan planBegin
+  begin-9 id h k f = rw (pass, h, k, f) refl
+
+  pub begin-done : (id : ℕ) → badId id ≡ false → liveId id w ≡ false → leb 8 (find (hasId 0) (w .state .places)) ≡ false
+      → plan (begin id) w ≡ record { answer = 0; op = none; map = w .map; hold = w .hold; state = withPlace (w .state) (find (hasId 0) (w .state .places)) (begun id) }
+  unfolding plan planBegin
+  begin-done id h k f = rw (pass, h, k, f) refl
+
+  -- write 11, 5, 8, 10, 12
+  pub write-11 : (id lpn : ℕ) (d : List ℕ) → eqb (length d) 512 ≡ false → plan (write id lpn d) w ≡ refuse w 11
+  unfolding plan planWrite
+  write-11 id lpn d l = rw (pass, l) refl
+
+  pub write-5 : (id lpn : ℕ) (d : List ℕ) → eqb (length d) 512 ≡ true → leb (w .state .geometry .logical) lpn ≡ true → plan (write id lpn d) w ≡ refuse w 5
+  unfolding plan planWrite
+  write-5 id lpn d l h = rw (pass, l, h) refl
+
+  module _ (id lpn : ℕ) (d : List ℕ) (long : eqb (length d) 512 ≡ true) (in-range : leb (w .state .geometry .logical) lpn ≡ false) where
+    pub write-8 : leb 8 (placeOf (w .state .places) id) ≡ true → plan (write id lpn d) w ≡ refuse w 8
+    unfolding plan planWrite
+    write-8 h = rw (pass, long, in-range, h) refl
+
+    module _ (open-at : leb 8 (placeOf (w .state .places) id) ≡ false) where
+      abbrev place : Place
+      place = getD (w .state .places) (placeOf (w .state .places) id) noPlace
+
+      -- 10 at 64 pages, whatever is clean
+      pub write-10 : place .count ≡ 64 → plan (write id lpn d) w ≡ refuse w 10
+      unfolding plan planWrite
+      write-10 n = rw (pass, long, in-range, open-at, n) refl
+
+      -- the 64th goes, and 12 is for a place with a held page alone
+      pub write-done : leb 64 (place .count) ≡ false → (not (eqb (place .count) 0) && zoneShort w) ≡ false → plan (write id lpn d) w ≡ writePlan (placeOf (w .state .places) id) place lpn d w
+      unfolding plan planWrite
+      write-done n z = rw (pass, long, in-range, open-at, n, z) refl
+
+      pub write-12 : leb 64 (place .count) ≡ false → eqb (place .count) 0 ≡ false → zoneShort w ≡ true → plan (write id lpn d) w ≡ refuse w 12
+      unfolding plan planWrite
+      write-12 n c z = rw (pass, long, in-range, open-at, n, c, z) refl
+
+      pub write-64th : place .count ≡ 63 → zoneShort w ≡ false → plan (write id lpn d) w .answer ≡ 0
+      unfolding writePlan
+      write-64th n z = ap (λ (p : Plan). p .answer) (write-done (rw n refl) (rw (n, z) refl))
+
+      pub write-first : place .count ≡ 0 → plan (write id lpn d) w .answer ≡ 0
+      unfolding plan planWrite writePlan
+      write-first n = rw (pass, long, in-range, open-at, n) refl
+
+    -- lone write 11, 5, 13, 12
+    pub lone-13 : spent (w .state .version) 1 ≡ true → plan (lone lpn d) w ≡ refuse w 13
+    unfolding plan planLone
+    lone-13 v = rw (pass, long, in-range, v) refl
+
+    pub lone-12 : spent (w .state .version) 1 ≡ false → zoneShort w ≡ true → plan (lone lpn d) w ≡ refuse w 12
+    unfolding plan planLone
+    lone-12 v z = rw (pass, long, in-range, v, z) refl
+
+    pub lone-done : spent (w .state .version) 1 ≡ false → zoneShort w ≡ false → plan (lone lpn d) w ≡ lonePlan lpn d w
+    unfolding plan planLone
+    lone-done v z = rw (pass, long, in-range, v, z) refl
+
+  pub lone-11 : (lpn : ℕ) (d : List ℕ) → eqb (length d) 512 ≡ false → plan (lone lpn d) w ≡ refuse w 11
+  unfolding plan planLone
+  lone-11 lpn d l = rw (pass, l) refl
+
+  pub lone-5 : (lpn : ℕ) (d : List ℕ) → eqb (length d) 512 ≡ true → leb (w .state .geometry .logical) lpn ≡ true → plan (lone lpn d) w ≡ refuse w 5
+  unfolding plan planLone
+  lone-5 lpn d l h = rw (pass, l, h) refl
+
+  -- commit 8, 13, 12, "the last two only with a held page"
+  pub commit-8 : (id : ℕ) → leb 8 (placeOf (w .state .places) id) ≡ true → plan (commit id) w ≡ refuse w 8
+  unfolding plan planCommit
+  commit-8 id h = rw (pass, h) refl
+
+  module _ (id : ℕ) (open-at : leb 8 (placeOf (w .state .places) id) ≡ false) where
+    abbrev committing : Place
+    committing = getD (w .state .places) (placeOf (w .state .places) id) noPlace
+
+    pub commit-empty : committing .count ≡ 0 → plan (commit id) w .answer ≡ 0
+    unfolding plan planCommit forgetPlan
+    commit-empty n = rw (pass, open-at, n) refl
+
+    pub commit-13 : eqb (committing .count) 0 ≡ false → spent (w .state .version) 1 ≡ true → plan (commit id) w ≡ refuse w 13
+    unfolding plan planCommit
+    commit-13 n v = rw (pass, open-at, n, v) refl
+
+    pub commit-12 : eqb (committing .count) 0 ≡ false → spent (w .state .version) 1 ≡ false → zoneShort w ≡ true → plan (commit id) w ≡ refuse w 12
+    unfolding plan planCommit
+    commit-12 n v z = rw (pass, open-at, n, v, z) refl
+
+    pub commit-done : eqb (committing .count) 0 ≡ false → spent (w .state .version) 1 ≡ false → zoneShort w ≡ false → plan (commit id) w ≡ markPlan (placeOf (w .state .places) id) committing w
+    unfolding plan planCommit
+    commit-done n v z = rw (pass, open-at, n, v, z) refl
+
+    -- abort 8
+    pub abort-done : plan (abort id) w ≡ forgetPlan (placeOf (w .state .places) id) w
+    unfolding plan planAbort
+    abort-done = rw (pass, open-at) refl
+
+-- read 5, 14
+module _ (w : World) (pass : gate true w ≡ 0) where
+  pub read-5 : (lpn : ℕ) → leb (w .state .geometry .logical) lpn ≡ true → plan (read lpn) w ≡ refuse w 5
+  unfolding plan readAnswer
+  read-5 lpn h = rw (pass, h) refl
+
+  pub read-14 : (lpn : ℕ) → leb (w .state .geometry .logical) lpn ≡ false → getD (w .map) lpn unmapped ≡ unmapped → plan (read lpn) w ≡ refuse w 14
+  unfolding plan readAnswer
+  read-14 lpn h e = rw (pass, h, e) refl
+
+  pub read-0 : (lpn : ℕ) → leb (w .state .geometry .logical) lpn ≡ false → eqb (getD (w .map) lpn unmapped) unmapped ≡ false → plan (read lpn) w ≡ refuse w 0
+  unfolding plan readAnswer
+  read-0 lpn h e = rw (pass, h, e) refl
+
+-- ---- checkpoint 13
+module _ (w : World) (pass : gate (isCheckpoint (w .state .work)) w ≡ 0) where
+  pub checkpoint-13 : spent (w .state .checkpoint) 1 ≡ true → plan checkpoint w ≡ refuse w 13
+  unfolding plan planCheckpoint
+  checkpoint-13 n = rw (pass, n) refl
+
+  pub checkpoint-done : spent (w .state .checkpoint) 1 ≡ false → plan checkpoint w ≡ checkpointStride w (w .state .work)
+  unfolding plan planCheckpoint
+  checkpoint-done n = rw (pass, n) refl
+
+-- ---- reclaim 15, 13, 16, the block b being picked
+pub reclaim-none : (w : World) → reclaimStride w nothing ≡ refuse w 15
+unfolding reclaimStride
+reclaim-none w = refl
+
+module _ (w : World) (b : ℕ) where
+  abbrev due : ℕ
+  due = mappedIn (w .map) (w .state .geometry .pages) b
+
+  -- no copy is due: the block is erased, whatever else
+  pub reclaim-frees : leb (w .state .geometry .pages) due ≡ false → eqb due 0 ≡ true → reclaimStride w (at b) ≡ freeStride b w
+  unfolding reclaimStride
+  reclaim-frees h e = rw (h, e) refl
+
+  pub reclaim-15 : leb (w .state .geometry .pages) due ≡ true → reclaimStride w (at b) ≡ refuse w 15
+  unfolding reclaimStride
+  reclaim-15 h = rw h refl
+
+  module _ (some : leb (w .state .geometry .pages) due ≡ false) (copies : eqb due 0 ≡ false) where
+    pub reclaim-13 : spent (w .state .version) due ≡ true → reclaimStride w (at b) ≡ refuse w 13
+    unfolding reclaimStride
+    reclaim-13 v = rw (some, copies, v) refl
+
+    pub reclaim-16 : spent (w .state .version) due ≡ false → ltb (cleanPages w) due ≡ true → reclaimStride w (at b) ≡ refuse w 16
+    unfolding reclaimStride
+    reclaim-16 v c = rw (some, copies, v, c) refl
+
+    pub reclaim-done : spent (w .state .version) due ≡ false → ltb (cleanPages w) due ≡ false → reclaimStride w (at b) ≡ copyStride (lowestFrom (w .map) (b * w .state .geometry .pages) (w .state .geometry .pages)) w
+    unfolding reclaimStride
+    reclaim-done v c = rw (some, copies, v, c) refl
+
+-- the stride that a call does, where 1 and 17 pass
+pub reclaim-strides : (w : World) → gate (isReclaim (w .state .work)) w ≡ 0 → plan reclaim w ≡ reclaimStride w (picked w)
+unfolding plan planReclaim
+reclaim-strides w pass = rw pass refl
+
+-- ---- recover 1, 2, 3, 4, and format 1
+pub recover-1 : (g : Geometry) (w : World) → lentOk g w ≡ false → plan (recover g) w ≡ refuse w 1
+unfolding plan planRecover
+recover-1 g w e = rw e refl
+
+pub recover-2 : (g : Geometry) (w : World) → lentOk g w ≡ true → newest (w .array) (mapPages g) (g .pages) ≡ nothing → plan (recover g) w ≡ refuse w 2
+unfolding plan planRecover recoverFrom
+recover-2 g w e n = rw (e, n) refl
+
+module _ (g : Geometry) (w : World) (k : ℕ) (len : lentOk g w ≡ true) (found : newest (w .array) (mapPages g) (g .pages) ≡ at k) where
+  pub recover-3 : loadOk g (entriesAt g (w .array) k) (zonesAt g (w .array) k) ≡ false → plan (recover g) w ≡ refuse w 3
+  unfolding plan planRecover recoverFrom
+  recover-3 o = rw (len, found, o) refl
+
+  pub recover-4 : loadOk g (entriesAt g (w .array) k) (zonesAt g (w .array) k) ≡ true → pagesGood (g .logical) (scannedAt g (w .array) k) ≡ false → plan (recover g) w ≡ refuse w 4
+  unfolding plan planRecover recoverFrom
+  recover-4 o p = rw (len, found, o, p) refl
+
+pub format-1 : (g : Geometry) (w : World) → lentOk g w ≡ false → plan (format g) w ≡ refuse w 1
+unfolding plan planFormat
+format-1 g w e = rw e refl
+
+-- ---- 13: "a number above 0xFFFFFFFE would be needed", not before
+pub last-version : spent 0xFFFFFFFD 1 ≡ false
+last-version = refl
+
+pub past-last-version : spent 0xFFFFFFFE 1 ≡ true
+past-last-version = refl
+
+-- ---- "Hold bytes are unchanged by commit and abort"
+either-hold : (h : List ℕ) (t : Bool) (p q : Plan) → p .hold ≡ h → q .hold ≡ h → cond t p q .hold ≡ h
+either-hold h true p q x y = x
+either-hold h false p q x y = y
+
+pub commit-hold : (id : ℕ) (w : World) → plan (commit id) w .hold ≡ w .hold
+unfolding plan planCommit forgetPlan markPlan
+commit-hold id w =
+    either-hold _ (eqb (gate false w) 0) _ _
+    (either-hold _ (leb 8 (placeOf (w .state .places) id)) _ _ refl
+    (either-hold _ (eqb (getD (w .state .places) (placeOf (w .state .places) id) noPlace .count) 0) _ _ refl
+    (either-hold _ (spent (w .state .version) 1) _ _ refl
+    (either-hold _ (zoneShort w) _ _ refl refl)))) refl
+
+pub abort-hold : (id : ℕ) (w : World) → plan (abort id) w .hold ≡ w .hold
+unfolding plan planAbort forgetPlan
+abort-hold id w =
+    either-hold _ (eqb (gate false w) 0) _ _
+    (either-hold _ (leb 8 (placeOf (w .state .places) id)) _ _ refl refl) refl
+
+-- ---- the front block: "otherwise the other front block is erased first and becomes current in that stride", in no other
+pub page-keeps-front : (q i : ℕ) (w : World) → pageStride q i w .state .front ≡ w .state .front
+unfolding pageStride mapStride zoneStride withWork withZones withNumber
+page-keeps-front q i w = go (ltb i (mapPages (w .state .geometry)))
+  where
+    go : (t : Bool) → cond t (mapStride q i w) (zoneStride q i w) .state .front ≡ w .state .front
+    go true = refl
+    go false = refl
+
+-- "Written in the current front block if its clean pages suffice": M + 1 do, M do not
+module _ (w : World) (used : ℕ) (u : usedIn (w .array) (w .state .geometry .pages) (w .state .front) ≡ used) where
+  pub front-suffices : ltb (w .state .geometry .pages - used) (mapPages (w .state .geometry) + 1) ≡ false → firstStride w ≡ pageStride used 0 w
+  unfolding firstStride
+  front-suffices h = rw (u, h) refl
+
+  pub front-short : ltb (w .state .geometry .pages - used) (mapPages (w .state .geometry) + 1) ≡ true → firstStride w ≡ otherStride w
+  unfolding firstStride
+  front-short h = rw (u, h) refl
+
+pub erase-switches-front : (w : World) → otherStride w .state .front ≡ 1 - w .state .front
+unfolding otherStride withWork
+erase-switches-front w = refl
+
+-- ---- format with buffers that fit
+-- array, map and hold of the lengths that geometry g wants
+unfoldable pub lent : Geometry → World
+lent g = record { array = replicate (g .blocks * g .pages * 528) 7; map = replicate (g .logical) 0; hold = replicate 4096 0; state = freshState (record { blocks = 0; pages = 0; logical = 0 }) }
+
+fits-lent : (g : Geometry) → lengthsOk g (lent g .array) (lent g .map) (lent g .hold) ≡ true
+unfolding lent lengthsOk
+fits-lent g = rw (length-replicate {A = ℕ} (g .blocks * g .pages * 528) 7, length-replicate {A = ℕ} (g .logical) 0, eq-eqb (g .blocks * g .pages * 528) _ refl, eq-eqb (g .logical) _ refl) refl
+
+some-blocks : (g : Geometry) → geometryOk g ≡ true → ltb 0 (g .blocks) ≡ true
+unfolding geometryOk
+some-blocks g ok = lt-ltb 0 (g .blocks) (go (leb 8 (g .blocks)) _ refl ok)
+  where
+    go : (t u : Bool) → leb 8 (g .blocks) ≡ t → (t && u) ≡ true → 0 < g .blocks
+    go true u e h = let l = leb-true 8 (g .blocks) e in omega (arith, l)
+    go false u e h = absurd (false≢true h)
+
+-- its first stride answers 1 where the geometry is out of range, and more where it is not
+pub format-answers : (g : Geometry) → plan (format g) (lent g) .answer ≡ cond (geometryOk g) 255 1
+unfolding plan planFormat lentOk
+format-answers g = go (geometryOk g) refl
+  where
+    go : (t : Bool) → geometryOk g ≡ t → cond ((geometryOk g && lengthsOk g (lent g .array) (lent g .map) (lent g .hold)) && formatWorkOk g (lent g) (lent g .state .work)) (formatStride g (stridesDone g (lent g .state) (lent g .state .work)) (lent g)) (refuse (lent g) 1) .answer ≡ cond t 255 1
+    go true e = rw (e, fits-lent g) (unfold lent freshState formatWorkOk stridesDone formatStride formatMore in rw (some-blocks g e) refl)
+    go false e = rw e refl

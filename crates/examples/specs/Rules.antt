@@ -1,0 +1,468 @@
+-- Rows of the rules: a second table beside the starred one. A row is a sentence of document 01 (docs/PAPERS.md) that neither demand 3 nor a bench
+-- case tells from a wrong one: its name, what the definitions give for small inputs, and what document 01 says. One theorem says that every row
+-- holds. The orders of refusals stand in `Orders`, as laws over all worlds.
+use Prim.Native.Nat.{ℕ, _+_, _-_, _*_}
+use mathlib.Core.Path.{_≡_, refl, ap}
+use mathlib.Core.Bool.{Bool, true, false}
+use mathlib.Core.List.{List, [], _∷_, _++_}
+use lib.ListN.{length, take, drop, set, replicate}
+use lib.Dec.{eqb}
+use Rattle.model.specs.Lists.{all, part, padTo}
+use Rattle.model.specs.Page.{spareOf, pageBytes, spareBytes}
+use Rattle.model.specs.Geometry.{geometryOk}
+use Rattle.model.specs.Zones.{Entry, Taken, zonesOf, listedIn, zoneListsOk, freeIndex, pastBlock, refill, slide}
+use Rattle.model.specs.Checkpoint.{Found, nothing, at, mapSpare, zoneSpare, mapBytes, zoneData, completeAt, newest, zonesIn, loadOk}
+use Rattle.model.specs.Recovery.{entryGood, applied}
+use Rattle.model.specs.World.{World, Plan}
+use Rattle.model.specs.Frame.{freePlace, placeOk, placesOk, formatStrideOk, checkpointStrideOk, workOk, freshState}
+use Rattle.model.specs.Transactions.{dataBytes, heldAt, holdWith, entered}
+use Rattle.model.specs.Strides.{withWork, mappedIn, pickFrom, lowestFrom, formatWorkOk}
+use Rattle.model.specs.Commands.{Call, format, plan}
+use Rattle.model.specs.declared.Geometry.{Geometry}
+use Rattle.model.specs.declared.Spare.{Spare}
+use Rattle.model.specs.declared.Zones.{Zones}
+use Rattle.model.specs.declared.Place.{Place}
+use Rattle.model.specs.declared.State.{State}
+use Rattle.model.specs.declared.Work.the-variants.{Idle, Format, Checkpoint, Reclaim}
+use Rattle.examples.specs.Unfolded.{go}
+use Rattle.examples.specs.Orders.{lent, format-answers}
+
+-- ---- the table's form
+-- the rules by name
+pub data Rule : Type 0 where
+  pointer-wraps : Rule
+  free-from-pointer : Rule
+  free-wraps-to-first : Rule
+  refilled-to-three : Rule
+  refilled-from-few : Rule
+  judged-again : Rule
+  near-kept : Rule
+  leaving-not-near : Rule
+  active-kept : Rule
+  lone-by-itself : Rule
+  leavers-last : Rule
+  reclaim-ties : Rule
+  reclaim-fewest : Rule
+  reclaim-checkpointed : Rule
+  copies-lowest : Rule
+  zone-counts-written : Rule
+  zone-counts-read : Rule
+  kind-reserved-written : Rule
+  spare-read : Rule
+  map-spare : Rule
+  zone-spare : Rule
+  map-unused : Rule
+  newest-first : Rule
+  newest-highest : Rule
+  complete-spare : Rule
+  checkpoint-refused : Rule
+  page-passes : Rule
+  page-kind : Rule
+  page-reserved : Rule
+  page-logical : Rule
+  page-one-zero : Rule
+  page-highest : Rule
+  page-lone-count : Rule
+  page-second-mark : Rule
+  page-version-twice : Rule
+  place-passes : Rule
+  place-too-long : Rule
+  place-identifier : Rule
+  place-logical-page : Rule
+  place-data-page : Rule
+  identifier-twice : Rule
+  checkpoint-stride : Rule
+  stride-zero : Rule
+  stride-past : Rule
+  ends-in-block : Rule
+  next-page-erased : Rule
+  format-stride : Rule
+  no-first-page : Rule
+  hold-by-place : Rule
+  later-holds : Rule
+  rising-versions : Rule
+  blocks-range : Rule
+  pages-range : Rule
+  logical-range : Rule
+  spared-blocks : Rule
+  format-blocks : Rule
+  format-pages : Rule
+  format-logical : Rule
+  format-spared : Rule
+
+pub record Row : Type 0 where
+  pub rule : Rule
+  pub gives : List ℕ
+  pub says : List ℕ
+
+abbrev pub Every : List Row → Type 0
+Every [] = Unit {0}
+Every (r ∷ rs) = (r .gives ≡ r .says) × Every rs
+
+abbrev pub EveryGroup : List (List Row) → Type 0
+EveryGroup [] = Unit {0}
+EveryGroup (g ∷ gs) = Every g × EveryGroup gs
+
+-- a test as a number: 1 passes, 0 does not
+abbrev pub flag : Bool → ℕ
+flag true = 1
+flag false = 0
+
+-- a page or block that was found, if one was
+abbrev pub foundIn : Found → List ℕ
+foundIn nothing = []
+foundIn (at k) = k ∷ []
+
+-- the numbers of the three lists, the pointer, then the blocks of the lists
+abbrev pub zonesGiven : Zones → List ℕ
+zonesGiven z = z .na ∷ z .nu ∷ z .nf ∷ z .pointer ∷ listedIn z
+
+abbrev pub takenGiven : Taken → List ℕ
+takenGiven t = length (t .available) ∷ length (t .free) ∷ t .pointer ∷ (t .available ++ t .free)
+
+-- ---- small inputs
+abbrev pub shape : ℕ → ℕ → ℕ → Geometry
+shape b p l = record { blocks = b; pages = p; logical = l }
+
+abbrev pub small : Geometry
+small = shape 8 8 16
+
+abbrev pub nothingYet : List ℕ
+nothingYet = replicate 528 255
+
+-- a page of the change with this identifier, without a mark
+abbrev pub pageOf : ℕ → List ℕ
+pageOf id = dataBytes (replicate 512 0) 0 0 id 0
+
+-- blocks of two pages: both of these changes, or one of it and a clean page
+abbrev pub both : ℕ → ℕ → List ℕ
+both i j = pageOf i ++ pageOf j
+
+abbrev pub half : ℕ → List ℕ
+half i = pageOf i ++ nothingYet
+
+-- the front, then blocks 2, 3, 4 of two pages
+abbrev pub array3 : List ℕ → List ℕ → List ℕ → List ℕ
+array3 x y z = replicate (4 * 528) 255 ++ (x ++ (y ++ z))
+
+abbrev pub empty2 : List ℕ
+empty2 = replicate (2 * 528) 255
+
+-- a free place, and one of identifier id with these pages written
+abbrev pub placed : ℕ → ℕ → List ℕ → List ℕ → Place
+placed id n ls ps = record { id = id; count = n; lpns = padTo 64 ls; ppns = padTo 64 ps }
+
+abbrev pub slid : List ℕ → List Place → List ℕ → List ℕ → List ℕ → List ℕ
+slid xs ps a u f = zonesGiven (slide (shape 8 2 1) xs ps (zonesOf a u f 4))
+
+-- a zone page with number n and this spare area
+abbrev pub zoned : Spare → List ℕ
+zoned s = pageBytes (replicate 512 0) s
+
+abbrev pub completes : Spare → ℕ
+completes s = flag (completeAt (zoned s) 0 0)
+
+-- map entries of two logical pages and an unused one, and the bytes of a zone page
+abbrev pub loads : List ℕ → List ℕ → ℕ
+loads entries z = flag (loadOk (shape 8 8 2) entries z)
+
+abbrev pub mapFine : List ℕ
+mapFine = 16 ∷ 65535 ∷ 65535 ∷ []
+
+abbrev pub zoneFine : List ℕ
+zoneFine = 0 ∷ 0 ∷ 0 ∷ 0 ∷ 5 ∷ 2 ∷ 1 ∷ 2 ∷ 3 ∷ 2 ∷ 4 ∷ 5 ∷ 6 ∷ 0 ∷ 0 ∷ []
+
+-- a scanned page
+abbrev pub entry : ℕ → ℕ → ℕ → ℕ → Entry
+entry lpn cnt id ver = record { ppn = 16; lpn = lpn; cnt = cnt; id = id; ver = ver; kind = 0; reserved = 0 }
+
+abbrev pub good : List Entry → Entry → ℕ
+good seen e = flag (entryGood 16 seen e)
+
+abbrev pub strides : ℕ → ℕ → ℕ → List ℕ → ℕ
+strides f q k xs = flag (checkpointStrideOk small xs f q k)
+
+abbrev pub versionsOf : List Entry → List ℕ
+versionsOf [] = []
+versionsOf (e ∷ es) = e .ver ∷ versionsOf es
+
+abbrev pub spareGiven : Spare → List ℕ
+spareGiven s = s .lpn ∷ s .cnt ∷ s .id ∷ s .ver ∷ s .kind ∷ s .reserved ∷ []
+
+abbrev pub erased3 : List ℕ
+erased3 = replicate (3 * 528) 255
+
+abbrev pub used1 : List ℕ
+used1 = replicate 528 255 ++ (replicate 528 0 ++ replicate 528 255)
+
+abbrev pub formatted : ℕ → List ℕ → ℕ
+formatted k xs = flag (formatStrideOk small xs k)
+
+abbrev pub twoHeld : List ℕ
+twoHeld = replicate 512 0 ++ replicate 512 1
+
+abbrev pub inRange : ℕ → ℕ → ℕ → ℕ
+inRange b p l = flag (geometryOk (shape b p l))
+
+abbrev pub formats : Geometry → List ℕ
+formats g = plan (format g) (lent g) .answer ∷ []
+
+-- ---- zones: free blocks, the pointer, what a checkpoint moves
+abbrev pub freeRows : List Row
+freeRows =
+    record { rule = pointer-wraps; gives = pastBlock small 6 ∷ pastBlock small 7 ∷ []; says = 7 ∷ 2 ∷ [] }
+    ∷ record { rule = free-from-pointer; gives = freeIndex 3 (2 ∷ 5 ∷ 6 ∷ []) ∷ freeIndex 5 (2 ∷ 5 ∷ 6 ∷ []) ∷ []; says = 1 ∷ 1 ∷ [] }
+    ∷ record { rule = free-wraps-to-first; gives = freeIndex 7 (3 ∷ 5 ∷ 6 ∷ []) ∷ []; says = 0 ∷ [] }
+    ∷ record {
+      rule = refilled-to-three;
+      gives = takenGiven (refill small 3 (record { available = 4 ∷ []; free = 3 ∷ 5 ∷ 7 ∷ []; pointer = 6 }));
+      says = 3 ∷ 1 ∷ 4 ∷ 4 ∷ 7 ∷ 3 ∷ 5 ∷ [];
+    }
+    ∷ record {
+      rule = refilled-from-few;
+      gives = takenGiven (refill small 3 (record { available = 4 ∷ []; free = 3 ∷ []; pointer = 6 }));
+      says = 2 ∷ 0 ∷ 4 ∷ 4 ∷ 3 ∷ [];
+    }
+    ∷ []
+
+abbrev pub slideRows : List Row
+slideRows =
+    record { rule = judged-again; gives = slid (array3 (both 5 5) (half 7) empty2) [] (3 ∷ []) (2 ∷ []) (4 ∷ []); says = 2 ∷ 0 ∷ 0 ∷ 5 ∷ 3 ∷ 4 ∷ [] }
+    ∷ record { rule = near-kept; gives = slid (array3 (both 7 5) (half 5) empty2) [] (2 ∷ 3 ∷ []) [] (4 ∷ []); says = 2 ∷ 1 ∷ 0 ∷ 5 ∷ 3 ∷ 4 ∷ 2 ∷ [] }
+    ∷ record { rule = leaving-not-near; gives = slid (array3 (both 5 5) (both 5 5) empty2) [] (2 ∷ 3 ∷ []) [] (4 ∷ []); says = 1 ∷ 0 ∷ 0 ∷ 5 ∷ 4 ∷ [] }
+    ∷ record { rule = active-kept; gives = slid (array3 (both 5 7) (half 9) empty2) (placed 7 0 [] [] ∷ []) (2 ∷ 3 ∷ []) [] (4 ∷ []); says = 2 ∷ 1 ∷ 0 ∷ 5 ∷ 3 ∷ 4 ∷ 2 ∷ [] }
+    ∷ record { rule = lone-by-itself; gives = slid (array3 (both 0 0) (half 0) empty2) (freePlace ∷ []) (2 ∷ 3 ∷ []) [] (4 ∷ []); says = 2 ∷ 0 ∷ 0 ∷ 5 ∷ 3 ∷ 4 ∷ [] }
+    ∷ record {
+      rule = leavers-last;
+      gives = slid (array3 (both 7 7) (both 7 7) (both 7 7)) (placed 7 0 [] [] ∷ []) (3 ∷ 2 ∷ []) (4 ∷ []) [];
+      says = 0 ∷ 3 ∷ 0 ∷ 4 ∷ 4 ∷ 3 ∷ 2 ∷ [];
+    }
+    ∷ []
+
+abbrev pub reclaimRows : List Row
+reclaimRows =
+    record { rule = reclaim-ties; gives = foundIn (pickFrom (zonesOf (4 ∷ 5 ∷ []) [] (6 ∷ 7 ∷ []) 2) (24 ∷ 16 ∷ []) 8 2 6 nothing); says = 2 ∷ [] }
+    ∷ record { rule = reclaim-fewest; gives = foundIn (pickFrom (zonesOf (5 ∷ []) [] (6 ∷ 7 ∷ []) 2) (24 ∷ 16 ∷ 23 ∷ 32 ∷ 33 ∷ []) 8 2 6 nothing); says = 3 ∷ [] }
+    ∷ record { rule = reclaim-checkpointed; gives = foundIn (pickFrom (zonesOf (2 ∷ []) (3 ∷ []) (4 ∷ []) 2) [] 8 2 6 nothing); says = 5 ∷ [] }
+    ∷ record { rule = copies-lowest; gives = lowestFrom (20 ∷ 65535 ∷ 18 ∷ 9 ∷ []) 16 8 ∷ mappedIn (15 ∷ 16 ∷ 23 ∷ 24 ∷ []) 8 2 ∷ []; says = 18 ∷ 2 ∷ [] }
+    ∷ []
+
+-- ---- the pages of a checkpoint
+abbrev pub checkpointRows : List Row
+checkpointRows =
+    record {
+      rule = zone-counts-written;
+      gives = flag (all (eqb 0) (drop 14 (zoneData 0x04030201 (zonesOf (2 ∷ []) (3 ∷ 4 ∷ []) (5 ∷ 6 ∷ 7 ∷ []) 6))))
+          ∷ take 14 (zoneData 0x04030201 (zonesOf (2 ∷ []) (3 ∷ 4 ∷ []) (5 ∷ 6 ∷ 7 ∷ []) 6));
+      says = 1 ∷ 1 ∷ 2 ∷ 3 ∷ 4 ∷ 6 ∷ 1 ∷ 2 ∷ 3 ∷ 2 ∷ 3 ∷ 4 ∷ 5 ∷ 6 ∷ 7 ∷ [];
+    }
+    ∷ record {
+      rule = zone-counts-read;
+      gives = zonesGiven (zonesIn (1 ∷ 2 ∷ 3 ∷ 4 ∷ 6 ∷ 1 ∷ 2 ∷ 3 ∷ 2 ∷ 3 ∷ 4 ∷ 5 ∷ 6 ∷ 7 ∷ 0 ∷ []));
+      says = 1 ∷ 2 ∷ 3 ∷ 6 ∷ 2 ∷ 3 ∷ 4 ∷ 5 ∷ 6 ∷ 7 ∷ [];
+    }
+    ∷ record {
+      rule = kind-reserved-written;
+      gives = spareBytes (record { lpn = 0x0102; cnt = 0x0304; id = 0x05060708; ver = 0x090A0B0C; kind = 0x0D; reserved = 0x0E });
+      says = 0x02 ∷ 0x01 ∷ 0x04 ∷ 0x03 ∷ 0x08 ∷ 0x07 ∷ 0x06 ∷ 0x05 ∷ 0x0C ∷ 0x0B ∷ 0x0A ∷ 0x09 ∷ 0x0D ∷ 0x0E ∷ [];
+    }
+    ∷ record {
+      rule = spare-read;
+      gives = spareGiven (spareOf (replicate 512 0 ++ (0x02 ∷ 0x01 ∷ 0x04 ∷ 0x03 ∷ 0x08 ∷ 0x07 ∷ 0x06 ∷ 0x05 ∷ 0x0C ∷ 0x0B ∷ 0x0A ∷ 0x09 ∷ 0x0D ∷ 0x0E ∷ 0 ∷ 0 ∷ [])));
+      says = 0x0102 ∷ 0x0304 ∷ 0x05060708 ∷ 0x090A0B0C ∷ 0x0D ∷ 0x0E ∷ [];
+    }
+    ∷ record { rule = map-spare; gives = spareGiven (mapSpare 3 9); says = 3 ∷ 0 ∷ 0 ∷ 9 ∷ 1 ∷ 0 ∷ [] }
+    ∷ record { rule = zone-spare; gives = spareGiven (zoneSpare 3 9); says = 3 ∷ 4 ∷ 0 ∷ 9 ∷ 2 ∷ 0 ∷ [] }
+    ∷ record { rule = map-unused; gives = mapBytes (0x0102 ∷ []) 0 2; says = 0x02 ∷ 0x01 ∷ 0xFF ∷ 0xFF ∷ [] }
+    ∷ []
+
+-- two front blocks of one page, with zone pages alone
+abbrev pub newestRows : List Row
+newestRows =
+    record { rule = newest-first; gives = foundIn (newest (zoned (zoneSpare 0 4) ++ zoned (zoneSpare 0 4)) 0 1); says = 0 ∷ [] }
+    ∷ record { rule = newest-highest; gives = foundIn (newest (zoned (zoneSpare 0 4) ++ zoned (zoneSpare 0 5)) 0 1); says = 1 ∷ [] }
+    ∷ record { rule = newest-highest; gives = foundIn (newest (zoned (zoneSpare 0 5) ++ zoned (zoneSpare 0 4)) 0 1); says = 0 ∷ [] }
+    ∷ record {
+      rule = complete-spare;
+      gives = completes (record { lpn = 0; cnt = 1; id = 0; ver = 4; kind = 2; reserved = 0 })
+          ∷ completes (record { lpn = 1; cnt = 1; id = 0; ver = 4; kind = 2; reserved = 0 })
+          ∷ completes (record { lpn = 0; cnt = 0; id = 0; ver = 4; kind = 2; reserved = 0 })
+          ∷ completes (record { lpn = 0; cnt = 1; id = 1; ver = 4; kind = 2; reserved = 0 })
+          ∷ completes (record { lpn = 0; cnt = 1; id = 0; ver = 4; kind = 1; reserved = 0 })
+          ∷ completes (record { lpn = 0; cnt = 1; id = 0; ver = 4; kind = 2; reserved = 1 })
+          ∷ [];
+      says = 1 ∷ 0 ∷ 0 ∷ 0 ∷ 0 ∷ 0 ∷ [];
+    }
+    ∷ []
+
+-- ---- refusal 3: what passes, then a row for each clause
+abbrev pub loadRows : List Row
+loadRows =
+    record { rule = checkpoint-refused; gives = loads mapFine zoneFine ∷ []; says = 1 ∷ [] }
+    ∷ record {
+      rule = checkpoint-refused;
+      gives = loads (15 ∷ 65535 ∷ 65535 ∷ []) zoneFine ∷ loads (64 ∷ 65535 ∷ 65535 ∷ []) zoneFine ∷ loads (16 ∷ 16 ∷ 65535 ∷ []) zoneFine ∷ loads (16 ∷ 65535 ∷ 17 ∷ []) zoneFine ∷ [];
+      says = 0 ∷ 0 ∷ 0 ∷ 0 ∷ [];
+    }
+    ∷ record { rule = checkpoint-refused; gives = flag (zoneListsOk small 3 3 1 (2 ∷ 3 ∷ 4 ∷ []) (5 ∷ 6 ∷ []) (7 ∷ []) 5) ∷ flag (zoneListsOk small 3 2 1 (2 ∷ 3 ∷ 4 ∷ []) (5 ∷ 6 ∷ []) (7 ∷ []) 5) ∷ []; says = 0 ∷ 1 ∷ [] }
+    ∷ record { rule = checkpoint-refused; gives = loads mapFine (set zoneFine 4 1) ∷ loads mapFine (set zoneFine 4 8) ∷ loads mapFine (set zoneFine 4 2) ∷ loads mapFine (set zoneFine 4 7) ∷ []; says = 0 ∷ 0 ∷ 1 ∷ 1 ∷ [] }
+    ∷ record { rule = checkpoint-refused; gives = loads mapFine (set zoneFine 8 1) ∷ loads mapFine (set zoneFine 8 8) ∷ loads mapFine (set zoneFine 8 4) ∷ []; says = 0 ∷ 0 ∷ 0 ∷ [] }
+    ∷ record { rule = checkpoint-refused; gives = loads mapFine (0 ∷ 0 ∷ 0 ∷ 0 ∷ 5 ∷ 4 ∷ 0 ∷ 0 ∷ 2 ∷ 3 ∷ 4 ∷ 5 ∷ []) ∷ []; says = 0 ∷ [] }
+    ∷ record { rule = checkpoint-refused; gives = loads mapFine (set (set zoneFine 11 6) 12 5) ∷ []; says = 0 ∷ [] }
+    ∷ record { rule = checkpoint-refused; gives = loads mapFine (set zoneFine 13 1) ∷ loads mapFine (set zoneFine 14 1) ∷ []; says = 0 ∷ 0 ∷ [] }
+    ∷ []
+
+-- ---- refusal 4: what passes, then a row for each clause
+abbrev pub pageRows : List Row
+pageRows =
+    record {
+      rule = page-passes;
+      gives = good [] (entry 15 0 5 0) ∷ good (entry 3 0 5 0 ∷ []) (entry 3 2 5 7) ∷ good (entry 3 1 0 6 ∷ []) (entry 3 1 0 0xFFFFFFFE) ∷ [];
+      says = 1 ∷ 1 ∷ 1 ∷ [];
+    }
+    ∷ record { rule = page-kind; gives = flag (entryGood 16 [] (record { ppn = 16; lpn = 3; cnt = 1; id = 0; ver = 7; kind = 1; reserved = 0 })) ∷ []; says = 0 ∷ [] }
+    ∷ record { rule = page-reserved; gives = flag (entryGood 16 [] (record { ppn = 16; lpn = 3; cnt = 1; id = 0; ver = 7; kind = 0; reserved = 1 })) ∷ []; says = 0 ∷ [] }
+    ∷ record { rule = page-logical; gives = good [] (entry 16 1 0 7) ∷ []; says = 0 ∷ [] }
+    ∷ record { rule = page-one-zero; gives = good [] (entry 3 0 5 7) ∷ good [] (entry 3 1 5 0) ∷ []; says = 0 ∷ 0 ∷ [] }
+    ∷ record { rule = page-highest; gives = good [] (entry 3 1 0xFFFFFFFF 7) ∷ good [] (entry 3 1 5 0xFFFFFFFF) ∷ []; says = 0 ∷ 0 ∷ [] }
+    ∷ record { rule = page-lone-count; gives = good [] (entry 3 2 0 7) ∷ good [] (entry 3 0 0 0) ∷ []; says = 0 ∷ 0 ∷ [] }
+    ∷ record { rule = page-second-mark; gives = good (entry 3 2 5 7 ∷ []) (entry 3 2 5 8) ∷ good (entry 3 2 5 7 ∷ []) (entry 3 2 6 8) ∷ []; says = 0 ∷ 1 ∷ [] }
+    ∷ record { rule = page-version-twice; gives = good (entry 3 2 5 7 ∷ []) (entry 3 2 6 7) ∷ good (entry 3 1 0 7 ∷ []) (entry 3 1 0 7) ∷ []; says = 0 ∷ 0 ∷ [] }
+    ∷ []
+
+-- ---- refusal 1: places, strides under way
+abbrev pub placeRows : List Row
+placeRows =
+    record {
+      rule = place-passes;
+      gives = flag (placeOk small freePlace) ∷ flag (placeOk small (placed 5 2 (15 ∷ 0 ∷ []) (16 ∷ []))) ∷ flag (placeOk small (placed 5 1 (3 ∷ []) [])) ∷ flag (placeOk small (placed 5 64 [] (replicate 63 63))) ∷ [];
+      says = 1 ∷ 1 ∷ 1 ∷ 1 ∷ [];
+    }
+    ∷ record { rule = place-too-long; gives = flag (placeOk small (placed 5 65 [] (replicate 64 63))) ∷ []; says = 0 ∷ [] }
+    ∷ record { rule = place-identifier; gives = flag (placeOk small (placed 0 1 [] [])) ∷ flag (placeOk small (placed 0xFFFFFFFF 0 [] [])) ∷ []; says = 0 ∷ 0 ∷ [] }
+    ∷ record { rule = place-logical-page; gives = flag (placeOk small (placed 5 1 (16 ∷ []) [])) ∷ []; says = 0 ∷ [] }
+    ∷ record {
+      rule = place-data-page;
+      gives = flag (placeOk small (placed 5 2 [] (15 ∷ []))) ∷ flag (placeOk small (placed 5 2 [] (64 ∷ []))) ∷ flag (placeOk small (placed 5 3 [] (16 ∷ 0 ∷ []))) ∷ [];
+      says = 0 ∷ 0 ∷ 0 ∷ [];
+    }
+    ∷ record {
+      rule = identifier-twice;
+      gives = flag (placesOk small (placed 5 0 [] [] ∷ freePlace ∷ placed 5 0 [] [] ∷ [])) ∷ flag (placesOk small (placed 5 0 [] [] ∷ freePlace ∷ placed 6 0 [] [] ∷ freePlace ∷ [])) ∷ [];
+      says = 0 ∷ 1 ∷ [];
+    }
+    ∷ []
+
+-- M is 1; pages 0 to 2 of block 0, of which all or all but page 1 are erased
+abbrev pub strideRows : List Row
+strideRows =
+    record { rule = checkpoint-stride; gives = strides 0 0 0 erased3 ∷ strides 0 0 1 erased3 ∷ strides 0 1 1 erased3 ∷ []; says = 1 ∷ 1 ∷ 1 ∷ [] }
+    ∷ record { rule = stride-zero; gives = strides 0 1 0 erased3 ∷ []; says = 0 ∷ [] }
+    ∷ record { rule = stride-past; gives = strides 0 0 2 erased3 ∷ []; says = 0 ∷ [] }
+    ∷ record { rule = ends-in-block; gives = strides 0 6 1 [] ∷ strides 0 7 1 [] ∷ []; says = 1 ∷ 0 ∷ [] }
+    ∷ record { rule = next-page-erased; gives = strides 0 0 0 used1 ∷ strides 0 0 1 used1 ∷ []; says = 1 ∷ 0 ∷ [] }
+    ∷ record {
+      rule = format-stride;
+      gives = formatted 0 erased3 ∷ formatted 1 used1 ∷ formatted 8 used1 ∷ formatted 9 used1 ∷ formatted 9 erased3 ∷ formatted 10 erased3 ∷ [];
+      says = 0 ∷ 1 ∷ 1 ∷ 0 ∷ 1 ∷ 0 ∷ [];
+    }
+    ∷ record {
+      rule = no-first-page;
+      gives = flag (workOk (withWork (freshState small) 0 1 Idle) [] Idle) ∷ flag (workOk (withWork (freshState small) 0 1 Reclaim) [] Reclaim)
+          ∷ flag (workOk (withWork (freshState small) 0 1 (Format 1)) [] (Format 1)) ∷ flag (workOk (withWork (freshState small) 0 0 (Format 1)) [] (Format 1)) ∷ [];
+      says = 0 ∷ 0 ∷ 0 ∷ 1 ∷ [];
+    }
+    ∷ []
+
+-- ---- transactions
+abbrev pub changeRows : List Row
+changeRows =
+    record { rule = hold-by-place; gives = take 2 (heldAt 1 twoHeld) ++ (take 2 (drop 511 (holdWith twoHeld 1 (replicate 512 9))) ++ (length (holdWith twoHeld 1 (replicate 512 9)) ∷ [])); says = 1 ∷ 1 ∷ 0 ∷ 9 ∷ 1024 ∷ [] }
+    ∷ record { rule = later-holds; gives = entered (65535 ∷ 65535 ∷ []) (1 ∷ 1 ∷ []) (16 ∷ 17 ∷ []) 2; says = 65535 ∷ 17 ∷ [] }
+    ∷ record { rule = rising-versions; gives = versionsOf (applied 0 (entry 3 1 0 2 ∷ entry 3 1 0 1 ∷ [])); says = 1 ∷ 2 ∷ [] }
+    ∷ []
+
+-- ---- geometry: the bounds, and a format of buffers that fit
+abbrev pub geometryRows : List Row
+geometryRows =
+    record { rule = blocks-range; gives = inRange 7 8 8 ∷ inRange 8 8 8 ∷ inRange 128 8 8 ∷ inRange 129 8 8 ∷ []; says = 0 ∷ 1 ∷ 1 ∷ 0 ∷ [] }
+    ∷ record { rule = pages-range; gives = inRange 8 7 8 ∷ inRange 8 8 8 ∷ inRange 8 64 8 ∷ inRange 8 65 8 ∷ []; says = 0 ∷ 1 ∷ 1 ∷ 0 ∷ [] }
+    ∷ record { rule = logical-range; gives = inRange 128 64 0 ∷ inRange 128 64 1 ∷ inRange 128 64 1024 ∷ inRange 128 64 1025 ∷ []; says = 0 ∷ 1 ∷ 1 ∷ 0 ∷ [] }
+    ∷ record { rule = spared-blocks; gives = inRange 8 8 16 ∷ inRange 8 8 17 ∷ inRange 16 10 100 ∷ inRange 16 10 101 ∷ []; says = 1 ∷ 0 ∷ 1 ∷ 0 ∷ [] }
+    ∷ []
+
+abbrev pub formatRows : List Row
+formatRows =
+    record { rule = format-blocks; gives = formats (shape 7 8 8); says = 1 ∷ [] }
+    ∷ record { rule = format-blocks; gives = formats (shape 8 8 8); says = 255 ∷ [] }
+    ∷ record { rule = format-blocks; gives = formats (shape 128 8 8); says = 255 ∷ [] }
+    ∷ record { rule = format-blocks; gives = formats (shape 129 8 8); says = 1 ∷ [] }
+    ∷ record { rule = format-pages; gives = formats (shape 8 7 8); says = 1 ∷ [] }
+    ∷ record { rule = format-pages; gives = formats (shape 8 64 8); says = 255 ∷ [] }
+    ∷ record { rule = format-pages; gives = formats (shape 8 65 8); says = 1 ∷ [] }
+    ∷ record { rule = format-logical; gives = formats (shape 128 64 0); says = 1 ∷ [] }
+    ∷ record { rule = format-logical; gives = formats (shape 128 64 1); says = 255 ∷ [] }
+    ∷ record { rule = format-logical; gives = formats (shape 128 64 1024); says = 255 ∷ [] }
+    ∷ record { rule = format-logical; gives = formats (shape 128 64 1025); says = 1 ∷ [] }
+    ∷ record { rule = format-spared; gives = formats (shape 8 8 16); says = 255 ∷ [] }
+    ∷ record { rule = format-spared; gives = formats (shape 8 8 17); says = 1 ∷ [] }
+    ∷ []
+
+-- ---- every row holds
+free-rows : Every freeRows
+unfolding go
+free-rows = (refl, (refl, (refl, (refl, (refl, tt)))))
+
+slide-rows : Every slideRows
+unfolding go
+slide-rows = (refl, (refl, (refl, (refl, (refl, (refl, tt))))))
+
+reclaim-rows : Every reclaimRows
+unfolding go
+reclaim-rows = (refl, (refl, (refl, (refl, tt))))
+
+checkpoint-rows : Every checkpointRows
+unfolding go
+checkpoint-rows = (refl, (refl, (refl, (refl, (refl, (refl, (refl, tt)))))))
+
+newest-rows : Every newestRows
+unfolding go
+newest-rows = (refl, (refl, (refl, (refl, tt))))
+
+load-rows : Every loadRows
+unfolding go
+load-rows = (refl, (refl, (refl, (refl, (refl, (refl, (refl, (refl, tt))))))))
+
+page-rows : Every pageRows
+unfolding go
+page-rows = (refl, (refl, (refl, (refl, (refl, (refl, (refl, (refl, (refl, tt)))))))))
+
+place-rows : Every placeRows
+unfolding go
+place-rows = (refl, (refl, (refl, (refl, (refl, (refl, tt))))))
+
+stride-rows : Every strideRows
+unfolding go
+stride-rows = (refl, (refl, (refl, (refl, (refl, (refl, (refl, tt)))))))
+
+change-rows : Every changeRows
+unfolding go
+change-rows = (refl, (refl, (refl, tt)))
+
+geometry-rows : Every geometryRows
+unfolding go
+geometry-rows = (refl, (refl, (refl, (refl, tt))))
+
+abbrev only : ℕ → List ℕ
+only n = n ∷ []
+
+format-rows : Every formatRows
+unfolding geometryOk
+format-rows = (ap only (format-answers (shape 7 8 8)), (ap only (format-answers (shape 8 8 8)), (ap only (format-answers (shape 128 8 8)), (ap only (format-answers (shape 129 8 8)), (ap only (format-answers (shape 8 7 8)), (ap only (format-answers (shape 8 64 8)), (ap only (format-answers (shape 8 65 8)), (ap only (format-answers (shape 128 64 0)), (ap only (format-answers (shape 128 64 1)), (ap only (format-answers (shape 128 64 1024)), (ap only (format-answers (shape 128 64 1025)), (ap only (format-answers (shape 8 8 16)), (ap only (format-answers (shape 8 8 17)), tt)))))))))))))
+
+abbrev pub table : List (List Row)
+table =
+    freeRows ∷ slideRows ∷ reclaimRows ∷ checkpointRows ∷ newestRows ∷ loadRows ∷ pageRows ∷ placeRows ∷ strideRows ∷ changeRows ∷ geometryRows ∷ formatRows ∷ []
+
+pub rules : EveryGroup table
+rules = (free-rows, (slide-rows, (reclaim-rows, (checkpoint-rows, (newest-rows, (load-rows, (page-rows, (place-rows, (stride-rows, (change-rows, (geometry-rows, (format-rows, tt))))))))))))
