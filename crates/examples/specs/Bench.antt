@@ -2,7 +2,7 @@
 -- says that every row holds.
 use Prim.Native.Nat.{ℕ, _+_, _-_, _*_}
 use mathlib.Core.Path.{_≡_, refl, ap, _∙_}
-use mathlib.Core.Bool.{Bool, true, false, cond}
+use mathlib.Core.Bool.{cond}
 use mathlib.Core.List.{List, [], _∷_, _++_}
 use lib.ListN.{drop, set, replicate}
 use Rattle.model.specs.Lists.{count, padTo}
@@ -11,7 +11,7 @@ use Rattle.model.specs.Page.{classOf, pageBytes}
 use Rattle.model.specs.Geometry.{geometryOk}
 use Rattle.model.specs.Zones.{Entry, zonesOf}
 use Rattle.model.specs.Recovery.{committed, applied}
-use Rattle.model.specs.World.{World, Plan}
+use Rattle.model.specs.World.{World}
 use Rattle.model.specs.Frame.{freePlace}
 use Rattle.model.specs.Commands.{Call, format, write, plan}
 use Rattle.model.specs.declared.Geometry.{Geometry}

@@ -1,116 +1,455 @@
--- Whole devices by computation: a format of 8 × 8 × 16; a change of two pages written, committed and read; its commit cut at its last bit
--- and cut short, each with the recovery that follows and the book.
-use Prim.Native.Nat.{ℕ, zero, suc, _*_}
-use mathlib.Core.Path.{_≡_, refl}
-use mathlib.Core.Bool.{Bool, true, false}
+-- What calls do on a device given by its pages: each law takes tests that compute on the state and on single pages, and says what the call answers
+-- and leaves. Beside them the steps of a Run in that form.
+use Prim.Native.Nat.{ℕ, zero, suc, _+_, _-_, _*_, _/_, max}
+use mathlib.Core.Path.{_≡_, refl, sym, ap, ap₂, _∙_, subst}
+use mathlib.Core.Bool.{Bool, true, false, false≢true, not, cond, _&&_, _||_}
 use mathlib.Core.List.{List, [], _∷_, _++_}
-use lib.ListN.{set, replicate}
-use Rattle.model.specs.Lists.{padTo}
-use Rattle.model.specs.Geometry.{blankMap}
-use Rattle.model.specs.Zones.{formatZones, zonesOf}
-use Rattle.model.specs.Checkpoint.{mapPage, zonePage}
-use Rattle.model.specs.World.{World}
-use Rattle.model.specs.Frame.{freePlace, freshState}
-use Rattle.model.specs.Transactions.{dataBytes, withPlace}
-use Rattle.model.specs.Strides.{withZones, withNumber}
-use Rattle.model.specs.Commands.{Call, format, recover, begin, write, commit, Outcome}
-use Rattle.model.specs.Book.{Event, called, Content, never, holds, Book, blank, pageOf}
+use lib.ListN.{length, take, getD, set, replicate}
+use lib.Dec.{leb, ltb, eqb}
+use Rattle.model.specs.Lists.{find, part, splice}
+use Rattle.model.specs.Bytes.{allFF, le32, words, ands, ors, minus, zerosOf}
+use Rattle.model.specs.Page.{dataAt, blockAt, putPage, putBlock, blankAt}
+use Rattle.model.specs.Answers.{refused}
+use Rattle.model.specs.Geometry.{blankMap, geometryOk, lengthsOk, mapPages, mapOk, enterPage}
+use Rattle.model.specs.Zones.{Entry, availableOf, unavailableOf, zonesOk, formatZones, freed, usedIn, scanOf, onPages, hasId, active}
+use Rattle.model.specs.Checkpoint.{nothing, at, mapPage, zonePage, loadMap, zonesIn, loadOk}
+use Rattle.model.specs.Recovery.{pagesGood, top, redone}
+use Rattle.model.specs.World.{World, Op, none, program, erase, Plan, refuse, applyOp, dueBits, turnedBits, turn, cutOp, programs}
+use Rattle.model.specs.Frame.{noPlace, freePlace, badId, placesOk, formatStrideOk, checkpointStrideOk, workOk, lentOk, frameOk, isIdle, gate, freshState}
+use Rattle.model.specs.Transactions.{withPlace, withVersion, dataBytes, heldAt, holdWith, heldPage, placeOf, begun, liveId, written, heldOp, writePlan, lonePlan, entered, markPlan, forgetPlan, cleanPages, nextPage, zoneShort, spent}
+use Rattle.model.specs.Strides.{withWork, withZones, withNumber, isCheckpoint, isReclaim, mapStride, zoneStride, pageStride, checkpointStride, mappedIn, picked, lowestFrom, copyStride, freeStride, reclaimStride, stridesDone, formatWorkOk, formatMore, formatLast, formatStride, planFormat}
+use Rattle.model.specs.Recover.{recoveredMap, recoveredState, recoverPlan, recoverFrom, planRecover}
+use Rattle.model.specs.Commands.{Call, format, recover, begin, write, lone, commit, abort, checkpoint, reclaim, plan, carried, exec, Outcome}
+use Rattle.model.specs.Book.{Event, called, cutIn}
+use Rattle.model.specs.Sequence.{Phase, live, dark, Allowed, cutEvent, cutArray, isRecovery, Step, call, cut, back, failed, Run, stop, next, Formatting, first, more, Formatted, finished, fits}
 use Rattle.model.specs.declared.Geometry.{Geometry}
 use Rattle.model.specs.declared.Place.{Place}
 use Rattle.model.specs.declared.State.{State}
-use Rattle.examples.specs.Unfolded.{go, answerOf, partOf, cutOf, told, cutTold}
+use Rattle.model.specs.declared.Zones.{Zones}
+use Rattle.model.specs.declared.Work.{Work}
+use Rattle.model.specs.declared.Work.the-variants.{Idle, Format, Checkpoint, Reclaim}
+use Rattle.examples.specs.Orders.{begin-done, write-done, lone-done, commit-done, abort-done, checkpoint-done, front-suffices, reclaim-strides, reclaim-done, reclaim-frees}
+use Rattle.examples.specs.Paged.{flat, Sized, length-flat, page-flat, part-flat, splice-flat, put-flat, usedOn, cleanOn, nextOn, scanOn, newestOn, numberOn, used-on, clean-on, next-on, scan-on, newest-page, number-on, slideOn, slide-on}
 
-abbrev pub small : Geometry
-small = record { blocks = 8; pages = 8; logical = 16 }
+-- ---- a device: the pages of its array, each of 528 bytes, map, hold and state
+pub record Device : Type 0 where
+  pub pages : List (List ℕ)
+  pub sized : Sized pages
+  pub map : List ℕ
+  pub hold : List ℕ
+  pub state : State
 
--- ---- format
--- any array, map, hold and state
-unfoldable pub whatever : World
-unfolding go
-whatever = record { array = replicate 33792 7; map = replicate 16 0; hold = replicate 4096 0; state = freshState (record { blocks = 0; pages = 0; logical = 0 }) }
+abbrev pub device : List (List ℕ) → List ℕ → List ℕ → State → World
+device qs m h s = record { array = flat qs; map = m; hold = h; state = s }
 
--- the same call n times
-unfoldable pub times : ℕ → Call → World → World
-unfolding go
-times zero c w = w
-times (suc n) c w = times n c (go c w .world)
+abbrev pub world : Device → World
+world x = device (x .pages) (x .map) (x .hold) (x .state)
 
--- the formatted device, written out
-unfoldable pub formatted : World
-unfolding go
-formatted =
-    record {
-      array = mapPage (blankMap small) 0 1 ++ (zonePage 1 0 (formatZones small) 1 ++ replicate 32736 255);
-      map = blankMap small;
-      hold = replicate 4096 0;
-      state = withNumber (withZones (freshState small) (zonesOf (2 ∷ 3 ∷ 4 ∷ []) [] (5 ∷ 6 ∷ 7 ∷ []) 5)) 1;
-    }
+-- what a refused call and one that does p leave
+pub refused-stays : (c : Call) (w : World) (n : ℕ) → plan c w ≡ refuse w n → exec c w ≡ record { answer = n; world = w }
+unfolding exec carried applyOp
+refused-stays c w n e = ap (λ (p : Plan). carried p w) e
 
-format-done : times 10 (format small) whatever ≡ formatted
-unfolding times whatever formatted
-format-done = refl
+-- refusal 1 of a device that no format is under way on
+unfoldable pub workOn : Device → Work → Bool
+workOn x Idle = eqb (x .state .first) 0
+workOn x (Format k) = false
+workOn x (Checkpoint k) =
+    leb k (mapPages (x .state .geometry))
+    && (ltb (x .state .first + mapPages (x .state .geometry)) (x .state .geometry .pages)
+    && ((not (eqb k 0) || eqb (x .state .first) 0)
+    && allFF (getD (x .pages) (x .state .front * x .state .geometry .pages + (x .state .first + k)) [])))
+workOn x Reclaim = eqb (x .state .first) 0
 
--- ---- a change of two pages
-abbrev pub data1 : List ℕ
-data1 = replicate 512 17
+unfoldable pub lentOn : Geometry → Device → Bool
+lentOn g x = geometryOk g && (eqb (length (x .pages) * 528) (g .blocks * g .pages * 528) && (eqb (length (x .map)) (g .logical) && eqb (length (x .hold)) 4096))
 
-abbrev pub data2 : List ℕ
-data2 = replicate 512 18
+unfoldable pub frameOn : Device → Bool
+frameOn x =
+    lentOn (x .state .geometry) x
+    && (mapOk (x .state .geometry) (x .map)
+    && (zonesOk (x .state .geometry) (x .state .zones)
+    && (placesOk (x .state .geometry) (x .state .places)
+    && (ltb (x .state .front) 2
+    && workOn x (x .state .work)))))
 
--- the device with the change open: logical page 3 is programmed on page 16, logical page 4 held
-unfoldable pub changed : World
-unfolding go formatted
-changed =
-    record {
-      array = mapPage (blankMap small) 0 1 ++ (zonePage 1 0 (formatZones small) 1 ++ (replicate (14 * 528) 255 ++ (dataBytes data1 3 0 5 0 ++ replicate (47 * 528) 255)));
-      map = blankMap small;
-      hold = data2 ++ replicate 3584 0;
-      state = withPlace (formatted .state) 0 (record { id = 5; count = 2; lpns = padTo 64 (3 ∷ 4 ∷ []); ppns = padTo 64 (16 ∷ []) });
-    }
+abbrev pub formatting : Work → Bool
+formatting Idle = false
+formatting (Format k) = true
+formatting (Checkpoint k) = false
+formatting Reclaim = false
 
-change-done : go (write 5 4 data2) (go (write 5 3 data1) (go (begin 5) formatted .world) .world) .world ≡ changed
-unfolding go formatted changed
-change-done = refl
+module _ (x : Device) where
+  abbrev qs : List (List ℕ)
+  qs = x .pages
 
--- what the book has of it
-unfoldable pub book : Book
-unfolding told
-book = told (told (told (blank small) (called (begin 5) 0)) (called (write 5 3 data1) 0)) (called (write 5 4 data2) 0)
+  abbrev sized : Sized qs
+  sized = x .sized
 
--- the last version, and what reading logical pages 3 and 4 answers and hands back
-unfoldable pub told34 : World → List ℕ
-unfolding answerOf partOf
-told34 w = w .state .version ∷ answerOf 3 w ∷ answerOf 4 w ∷ (partOf 3 w ++ partOf 4 w)
+  abbrev m : List ℕ
+  m = x .map
 
--- committed: both pages read back
-commit-reads : told34 (go (commit 5) changed .world) ≡ 1 ∷ 0 ∷ 0 ∷ (data1 ++ data2)
-unfolding go changed told34
-commit-reads = refl
+  abbrev h : List ℕ
+  h = x .hold
 
--- ---- the commit cut, and a recovery with another map, hold and state
-unfoldable pub found : List ℕ → World
-unfolding whatever
-found xs = record { array = xs; map = replicate 16 5; hold = replicate 4096 9; state = whatever .state }
+  abbrev s : State
+  s = x .state
 
--- what a recovery finds after the commit was cut so that it let these bits turn
-unfoldable pub afterCut : List ℕ → World
-unfolding go cutOf changed found
-afterCut lets = go (recover small) (found (cutOf (commit 5) changed lets)) .world
+  abbrev available : List ℕ
+  available = availableOf (s .zones)
 
--- cut at its last bit, every due bit let turn: the change is there, on the device and in the book
-last-bit-reads : told34 (afterCut []) ≡ 1 ∷ 0 ∷ 0 ∷ (data1 ++ data2)
-unfolding afterCut told34
-last-bit-reads = refl
+  abbrev scanned : List Entry
+  scanned = scanOn qs (s .geometry .pages) (unavailableOf (s .zones) ++ availableOf (s .zones))
 
-last-bit-book : cutTold book (commit 5) changed [] .pages ≡ set (set (replicate 16 never) 3 (holds data1)) 4 (holds data2)
-unfolding cutTold book changed
-last-bit-book = refl
+  -- the clean pages, and the page that is taken next
+  abbrev clean : ℕ
+  clean = cleanOn qs (s .geometry .pages) available
 
--- cut short by one bit, bit 0 of the page: none of it is there
-short-reads : told34 (afterCut (254 ∷ [])) ≡ 0 ∷ 14 ∷ 14 ∷ []
-unfolding afterCut told34
-short-reads = refl
+  abbrev nextFree : ℕ
+  nextFree = nextOn qs (s .geometry .pages) available
 
-short-book : cutTold book (commit 5) changed (254 ∷ []) .pages ≡ replicate 16 never
-unfolding cutTold book changed
-short-book = refl
+  pub lent-on : (g : Geometry) → lentOk g (world x) ≡ lentOn g x
+  unfolding lentOk lengthsOk lentOn
+  lent-on g = ap (λ (n : ℕ). geometryOk g && (eqb n (g .blocks * g .pages * 528) && (eqb (length m) (g .logical) && eqb (length h) 4096))) (length-flat qs sized)
+
+  work-on : (k : Work) → formatting k ≡ false → workOk s (flat qs) k ≡ workOn x k
+  unfolding workOk workOn checkpointStrideOk blankAt
+  work-on Idle f = refl
+  work-on (Format k) f = absurd (false≢true (sym f))
+  work-on (Checkpoint k) f = ap (λ (q : List ℕ). leb k (mapPages (s .geometry)) && (ltb (s .first + mapPages (s .geometry)) (s .geometry .pages) && ((not (eqb k 0) || eqb (s .first) 0) && allFF q))) (page-flat qs sized (s .front * s .geometry .pages + (s .first + k)))
+  work-on Reclaim f = refl
+
+  frame-on : formatting (s .work) ≡ false → frameOk (world x) ≡ frameOn x
+  unfolding frameOk frameOn
+  frame-on f = ap₂ (λ (a b : Bool). a && (mapOk (s .geometry) m && (zonesOk (s .geometry) (s .zones) && (placesOk (s .geometry) (s .places) && (ltb (s .front) 2 && b))))) (lent-on (s .geometry)) (work-on (s .work) f)
+
+  -- 1 and 17 pass
+  pub passes : (own : Bool) → formatting (s .work) ≡ false → frameOn x ≡ true → (isIdle (s .work) || own) ≡ true → gate own (world x) ≡ 0
+  unfolding gate
+  passes own f e i = rw (frame-on f, e, i) refl
+
+  -- 17
+  pub busy : formatting (s .work) ≡ false → frameOn x ≡ true → isIdle (s .work) ≡ false → gate false (world x) ≡ 17
+  unfolding gate
+  busy f e i = rw (frame-on f, e, i) refl
+
+  clean-pages : cleanPages (world x) ≡ clean
+  clean-pages = clean-on (flat qs) qs (page-flat qs sized) (s .geometry .pages) available
+
+  pub zone-on : leb clean (s .geometry .pages) ≡ false → zoneShort (world x) ≡ false
+  zone-on e = ap (λ (n : ℕ). leb n (s .geometry .pages)) clean-pages ∙ e
+
+  pub next-page : (k : ℕ) → nextFree ≡ k → nextPage (world x) ≡ k
+  next-page k e = next-on (flat qs) qs (page-flat qs sized) (s .geometry .pages) available ∙ e
+
+  pub scanned-on : scanOf (flat qs) (s .geometry .pages) (s .zones) ≡ scanned
+  unfolding scanOf
+  scanned-on = scan-on (flat qs) qs (page-flat qs sized) (s .geometry .pages) (unavailableOf (s .zones) ++ availableOf (s .zones))
+
+  pub live-on : (id : ℕ) (t : Bool) → (active id (s .places) || onPages id scanned) ≡ t → liveId id (world x) ≡ t
+  unfolding liveId
+  live-on id t e = ap (λ (es : List Entry). active id (s .places) || onPages id es) scanned-on ∙ e
+
+  -- programming page k so that it reads q
+  pub programs-on : (p k : ℕ) (new q : List ℕ) → ands (getD qs k []) new ≡ q → applyOp p (program k new) (flat qs) ≡ flat (splice qs k 1 (q ∷ []))
+  unfolding applyOp
+  programs-on p k new q e = ap (λ (x : List ℕ). putPage (flat qs) k (ands x new)) (page-flat qs sized k) ∙ (ap (λ (x : List ℕ). putPage (flat qs) k x) e ∙ put-flat qs sized k q)
+
+  -- ---- the calls that are done
+  module _ (still : formatting (s .work) ≡ false) (frame : frameOn x ≡ true) (idle : (isIdle (s .work) || false) ≡ true) where
+    pass : gate false (world x) ≡ 0
+    pass = passes false still frame idle
+
+    pub begins : (id : ℕ) → badId id ≡ false → (active id (s .places) || onPages id scanned) ≡ false → leb 8 (find (hasId 0) (s .places)) ≡ false
+        → exec (begin id) (world x) ≡ record { answer = 0; world = device qs m h (withPlace s (find (hasId 0) (s .places)) (begun id)) }
+    unfolding exec carried applyOp
+    begins id b l f = ap (λ (p : Plan). carried p (world x)) (begin-done (world x) pass id b (live-on id false l) f)
+
+    pub begin-op : (id : ℕ) → badId id ≡ false → (active id (s .places) || onPages id scanned) ≡ false → leb 8 (find (hasId 0) (s .places)) ≡ false
+        → plan (begin id) (world x) .op ≡ none
+    begin-op id b l f = ap (λ (p : Plan). p .op) (begin-done (world x) pass id b (live-on id false l) f)
+
+    module _ (lpn : ℕ) (d : List ℕ) (long : eqb (length d) 512 ≡ true) (in-range : leb (s .geometry .logical) lpn ≡ false) where
+      pub lone-op : (k : ℕ) → spent (s .version) 1 ≡ false → leb clean (s .geometry .pages) ≡ false
+          → nextFree ≡ k → plan (lone lpn d) (world x) .op ≡ program k (dataBytes d lpn 1 0 (s .version + 1))
+      unfolding lonePlan
+      lone-op k v z n = ap (λ (p : Plan). p .op) (lone-done (world x) pass 0 lpn d long in-range v (zone-on z)) ∙ ap (λ (j : ℕ). program j (dataBytes d lpn 1 0 (s .version + 1))) (next-page k n)
+
+      -- a lone write on page k
+      pub lone-writes : (k : ℕ) (q : List ℕ) → spent (s .version) 1 ≡ false → leb clean (s .geometry .pages) ≡ false
+          → nextFree ≡ k → ands (getD qs k []) (dataBytes d lpn 1 0 (s .version + 1)) ≡ q
+          → exec (lone lpn d) (world x) ≡ record { answer = 0; world = device (splice qs k 1 (q ∷ [])) (enterPage m lpn k) h (withVersion s (s .version + 1)) }
+      unfolding exec carried lonePlan withVersion
+      lone-writes k q v z n e =
+          ap (λ (p : Plan). carried p (world x)) (lone-done (world x) pass 0 lpn d long in-range v (zone-on z))
+          ∙ (ap (λ (j : ℕ). record { answer = 0; world = record { array = applyOp (s .geometry .pages) (program j (dataBytes d lpn 1 0 (s .version + 1))) (flat qs); map = enterPage m lpn j; hold = h; state = withVersion s (s .version + 1) } }) (next-page k n)
+          ∙ ap (λ (xs : List ℕ). record { answer = 0; world = record { array = xs; map = enterPage m lpn k; hold = h; state = withVersion s (s .version + 1) } }) (programs-on (s .geometry .pages) k (dataBytes d lpn 1 0 (s .version + 1)) q e))
+
+    module _ (id : ℕ) (open-at : leb 8 (placeOf (s .places) id) ≡ false) where
+      abbrev i : ℕ
+      i = placeOf (s .places) id
+
+      abbrev place : Place
+      place = getD (s .places) i noPlace
+
+      -- the held page as it is programmed with this TxCnt and TxVer
+      abbrev held : ℕ → ℕ → List ℕ
+      held cnt ver = dataBytes (heldAt i h) (heldPage place) cnt (place .id) ver
+
+      module _ (lpn : ℕ) (d : List ℕ) (long : eqb (length d) 512 ≡ true) (in-range : leb (s .geometry .logical) lpn ≡ false) (k : ℕ) (n : nextFree ≡ k) where
+        -- the world after a write that the array undergoes o for, page j being next
+        after : Op → ℕ → Outcome
+        after o j = record { answer = 0; world = record { array = applyOp (s .geometry .pages) o (flat qs); map = m; hold = holdWith h i d; state = withPlace s i (written place j lpn) } }
+
+        -- the first write of a change is held
+        pub first-write : place .count ≡ 0
+            → exec (write id lpn d) (world x) ≡ record { answer = 0; world = device qs m (holdWith h i d) (withPlace s i (written place k lpn)) }
+        unfolding exec carried writePlan heldOp withPlace applyOp after
+        first-write c =
+            ap (λ (p : Plan). carried p (world x)) (write-done (world x) pass id lpn d long in-range open-at (rw c refl) (rw c refl))
+            ∙ (ap (λ (y : ℕ). after (cond (eqb y 0) none (program (nextPage (world x)) (held 0 0))) (nextPage (world x))) c
+            ∙ ap (after none) (next-page k n))
+
+        -- a later one programs the held page on page k
+        pub next-write : (q : List ℕ) → eqb (place .count) 0 ≡ false → leb 64 (place .count) ≡ false → leb clean (s .geometry .pages) ≡ false
+            → ands (getD qs k []) (held 0 0) ≡ q
+            → exec (write id lpn d) (world x) ≡ record { answer = 0; world = device (splice qs k 1 (q ∷ [])) m (holdWith h i d) (withPlace s i (written place k lpn)) }
+        unfolding exec carried writePlan heldOp withPlace after
+        next-write q c t z e =
+            ap (λ (p : Plan). carried p (world x)) (write-done (world x) pass id lpn d long in-range open-at t (rw (c, zone-on z) refl))
+            ∙ (ap (λ (y : Bool). after (cond y none (program (nextPage (world x)) (held 0 0))) (nextPage (world x))) c
+            ∙ (ap (λ (j : ℕ). after (program j (held 0 0)) j) (next-page k n)
+            ∙ ap (λ (xs : List ℕ). record { answer = 0; world = record { array = xs; map = m; hold = holdWith h i d; state = withPlace s i (written place k lpn) } }) (programs-on (s .geometry .pages) k (held 0 0) q e)))
+
+      -- a commit programs the held page as the mark, on page k
+      module _ (k : ℕ) (c : eqb (place .count) 0 ≡ false) (v : spent (s .version) 1 ≡ false) (z : leb clean (s .geometry .pages) ≡ false)
+          (n : nextFree ≡ k) where
+        marked : ℕ → List ℕ → Outcome
+        marked j xs = record { answer = 0; world = record { array = xs; map = entered m (place .lpns) (set (place .ppns) (place .count - 1) j) (place .count); hold = h; state = withPlace (withVersion s (s .version + 1)) i freePlace } }
+
+        pub commit-op : plan (commit id) (world x) .op ≡ program k (held (place .count) (s .version + 1))
+        unfolding markPlan
+        commit-op = ap (λ (p : Plan). p .op) (commit-done (world x) pass id open-at c v (zone-on z)) ∙ ap (λ (j : ℕ). program j (held (place .count) (s .version + 1))) (next-page k n)
+
+        pub commits : (q : List ℕ) → ands (getD qs k []) (held (place .count) (s .version + 1)) ≡ q
+            → exec (commit id) (world x) ≡ record { answer = 0; world = device (splice qs k 1 (q ∷ [])) (entered m (place .lpns) (set (place .ppns) (place .count - 1) k) (place .count)) h (withPlace (withVersion s (s .version + 1)) i freePlace) }
+        unfolding exec carried markPlan withPlace withVersion marked
+        commits q e =
+            ap (λ (p : Plan). carried p (world x)) (commit-done (world x) pass id open-at c v (zone-on z))
+            ∙ (ap (λ (j : ℕ). marked j (applyOp (s .geometry .pages) (program j (held (place .count) (s .version + 1))) (flat qs))) (next-page k n)
+            ∙ ap (marked k) (programs-on (s .geometry .pages) k (held (place .count) (s .version + 1)) q e))
+
+      pub aborts : exec (abort id) (world x) ≡ record { answer = 0; world = device qs m h (withPlace s i freePlace) }
+      unfolding exec carried forgetPlan applyOp
+      aborts = ap (λ (p : Plan). carried p (world x)) (abort-done (world x) pass id open-at)
+
+    -- the first stride of a checkpoint, its map page on page u of the front block
+    pub checkpoint-begins : (u : ℕ) (q : List ℕ) → s .work ≡ Idle → spent (s .checkpoint) 1 ≡ false → usedOn qs (s .front * s .geometry .pages) (s .geometry .pages) ≡ u
+        → ltb (s .geometry .pages - u) (mapPages (s .geometry) + 1) ≡ false → ltb 0 (mapPages (s .geometry)) ≡ true
+        → ands (getD qs (s .front * s .geometry .pages + (u + 0)) []) (mapPage m 0 (s .checkpoint + 1)) ≡ q
+        → exec checkpoint (world x) ≡ record { answer = 255; world = device (splice qs (s .front * s .geometry .pages + (u + 0)) 1 (q ∷ [])) m h (withWork s (s .front) u (Checkpoint 1)) }
+    unfolding exec carried pageStride mapStride withWork usedIn checkpointStride
+    checkpoint-begins u q k v e f t o =
+        ap (λ (p : Plan). carried p (world x)) (checkpoint-done (world x) (passes (isCheckpoint (s .work)) still frame (rw k refl)) v)
+        ∙ (ap (λ (y : Work). carried (checkpointStride (world x) y) (world x)) k
+        ∙ (ap (λ (p : Plan). carried p (world x)) (front-suffices (world x) u (used-on (flat qs) qs (page-flat qs sized) (s .front * s .geometry .pages) (s .geometry .pages) ∙ e) f)
+        ∙ (ap (λ (y : Bool). carried (cond y (mapStride u 0 (world x)) (zoneStride u 0 (world x))) (world x)) t
+        ∙ ap (λ (xs : List ℕ). record { answer = 255; world = record { array = xs; map = m; hold = h; state = withWork s (s .front) u (Checkpoint 1) } }) (programs-on (s .geometry .pages) (s .front * s .geometry .pages + (u + 0)) (mapPage m 0 (s .checkpoint + 1)) q o))))
+
+  -- the last stride of a checkpoint under way
+  pub checkpoint-ends : (i : ℕ) (z : Zones) (q : List ℕ) → s .work ≡ Checkpoint i → formatting (s .work) ≡ false → frameOn x ≡ true → spent (s .checkpoint) 1 ≡ false → ltb i (mapPages (s .geometry)) ≡ false
+      → slideOn (s .geometry) qs (s .places) (s .zones) ≡ z
+      → ands (getD qs (s .front * s .geometry .pages + (s .first + i)) []) (zonePage (mapPages (s .geometry)) (s .version) z (s .checkpoint + 1)) ≡ q
+      → exec checkpoint (world x) ≡ record { answer = 0; world = device (splice qs (s .front * s .geometry .pages + (s .first + i)) 1 (q ∷ [])) m h (withNumber (withZones (withWork s (s .front) 0 Idle) z) (s .checkpoint + 1)) }
+  unfolding exec carried pageStride zoneStride withWork withZones withNumber checkpointStride
+  checkpoint-ends i z q k still frame v t e o =
+      ap (λ (p : Plan). carried p (world x)) (checkpoint-done (world x) (passes (isCheckpoint (s .work)) still frame (rw k refl)) v)
+      ∙ (ap (λ (y : Work). carried (checkpointStride (world x) y) (world x)) k
+      ∙ (ap (λ (y : Bool). carried (cond y (mapStride (s .first) i (world x)) (zoneStride (s .first) i (world x))) (world x)) t
+      ∙ (ap (λ (y : Zones). record { answer = 0; world = record { array = applyOp (s .geometry .pages) (program (s .front * s .geometry .pages + (s .first + i)) (zonePage (mapPages (s .geometry)) (s .version) y (s .checkpoint + 1))) (flat qs); map = m; hold = h; state = withNumber (withZones (withWork s (s .front) 0 Idle) y) (s .checkpoint + 1) } })
+      (slide-on (flat qs) qs (page-flat qs sized) (s .geometry) (s .places) (s .zones) ∙ e)
+      ∙ ap (λ (xs : List ℕ). record { answer = 0; world = record { array = xs; map = m; hold = h; state = withNumber (withZones (withWork s (s .front) 0 Idle) z) (s .checkpoint + 1) } }) (programs-on (s .geometry .pages) (s .front * s .geometry .pages + (s .first + i)) (zonePage (mapPages (s .geometry)) (s .version) z (s .checkpoint + 1)) q o))))
+
+  -- ---- reclaim of block b
+  module _ (b : ℕ) (still : formatting (s .work) ≡ false) (frame : frameOn x ≡ true) (own : (isIdle (s .work) || isReclaim (s .work)) ≡ true)
+      (pick : picked (world x) ≡ at b) (some : leb (s .geometry .pages) (mappedIn m (s .geometry .pages) b) ≡ false) where
+    strides : plan reclaim (world x) ≡ reclaimStride (world x) (at b)
+    strides = reclaim-strides (world x) (passes (isReclaim (s .work)) still frame own) ∙ ap (reclaimStride (world x)) pick
+
+    -- a copy of page j, which logical page l has, on page k
+    pub reclaim-copies : (j l k : ℕ) (d q : List ℕ) → eqb (mappedIn m (s .geometry .pages) b) 0 ≡ false → spent (s .version) (mappedIn m (s .geometry .pages) b) ≡ false
+        → ltb clean (mappedIn m (s .geometry .pages) b) ≡ false
+        → lowestFrom m (b * s .geometry .pages) (s .geometry .pages) ≡ j → find (eqb j) m ≡ l → take 512 (getD qs j []) ≡ d
+        → nextFree ≡ k → ands (getD qs k []) (dataBytes d l 1 0 (s .version + 1)) ≡ q
+        → exec reclaim (world x) ≡ record { answer = 255; world = device (splice qs k 1 (q ∷ [])) (enterPage m l k) h (withWork (withVersion s (s .version + 1)) (s .front) (s .first) Reclaim) }
+    unfolding exec carried copyStride withWork withVersion dataAt
+    reclaim-copies j l k d q c v z low f e n o =
+        ap (λ (p : Plan). carried p (world x)) (strides ∙ reclaim-done (world x) b some c v (ap (λ (x : ℕ). ltb x (mappedIn m (s .geometry .pages) b)) clean-pages ∙ z))
+        ∙ (ap (λ (y : ℕ). carried (copyStride y (world x)) (world x)) low
+        ∙ rw (f, page-flat qs sized j, e, next-page k n, programs-on (s .geometry .pages) k (dataBytes d l 1 0 (s .version + 1)) q o) refl)
+
+    abbrev blankPage : List ℕ
+    blankPage = replicate 528 255
+
+    free-op : eqb (mappedIn m (s .geometry .pages) b) 0 ≡ true → plan reclaim (world x) ≡ freeStride b (world x)
+    free-op e = strides ∙ reclaim-frees (world x) b some e
+
+    -- the erase
+    pub reclaim-erases : (rs : List (List ℕ)) → eqb (mappedIn m (s .geometry .pages) b) 0 ≡ true → replicate (s .geometry .pages * 528) 255 ≡ flat rs
+        → exec reclaim (world x) ≡ record { answer = 0; world = device (splice qs (b * s .geometry .pages) (s .geometry .pages) rs) m h (withZones (withWork s (s .front) (s .first) Idle) (freed (s .zones) b)) }
+    unfolding exec carried freeStride withWork withZones applyOp putBlock
+    reclaim-erases rs e r =
+        ap (λ (p : Plan). carried p (world x)) (free-op e)
+        ∙ ap (λ (xs : List ℕ). record { answer = 0; world = record { array = xs; map = m; hold = h; state = withZones (withWork s (s .front) (s .first) Idle) (freed (s .zones) b) } })
+        (ap (λ (ys : List ℕ). splice (flat qs) (b * s .geometry .pages * 528) (s .geometry .pages * 528) ys) r ∙ splice-flat qs sized (b * s .geometry .pages) (s .geometry .pages) rs)
+
+    pub reclaim-op : eqb (mappedIn m (s .geometry .pages) b) 0 ≡ true → plan reclaim (world x) .op ≡ erase b
+    unfolding freeStride
+    reclaim-op e = ap (λ (p : Plan). p .op) (free-op e)
+
+    pub reclaim-shape : eqb (mappedIn m (s .geometry .pages) b) 0 ≡ true → plan reclaim (world x) .state .geometry .pages ≡ s .geometry .pages
+    unfolding freeStride withWork withZones
+    reclaim-shape e = ap (λ (p : Plan). p .state .geometry .pages) (free-op e)
+
+  -- ---- recover, from the checkpoint on page k
+  unfoldable pub loadOn : List (List ℕ) → ℕ → ℕ → List ℕ
+  loadOn ps k zero = []
+  loadOn ps k (suc n) = words (take 512 (getD ps k [])) ++ loadOn ps (suc k) n
+
+  load-on : (k n : ℕ) → loadMap (flat qs) k n ≡ loadOn qs k n
+  unfolding loadMap loadOn dataAt
+  load-on k zero = refl
+  load-on k (suc n) = ap₂ (λ (q es : List ℕ). words (take 512 q) ++ es) (page-flat qs sized k) (load-on (suc k) n)
+
+  pub recovers : (g : Geometry) (k : ℕ) (entries z : List ℕ) (es : List Entry) (number : ℕ) → lentOn g x ≡ true
+      → newestOn qs (mapPages g) (g .pages) (g .pages - mapPages g) (newestOn qs (mapPages g) 0 (g .pages - mapPages g) nothing) ≡ at k
+      → loadOn qs k (mapPages g) ≡ entries → take 512 (getD qs (k + mapPages g) []) ≡ z
+      → scanOn qs (g .pages) (unavailableOf (zonesIn z) ++ availableOf (zonesIn z)) ≡ es → numberOn qs k ≡ number
+      → loadOk g entries z ≡ true → pagesGood (g .logical) es ≡ true
+      → exec (recover g) (world x) ≡ record { answer = 0; world = device qs (redone (le32 z 0) es (take (g .logical) entries)) h (record { geometry = g; zones = zonesIn z; version = max (le32 z 0) (top es); checkpoint = number; front = k / g .pages; first = 0; work = Idle; places = replicate 8 freePlace }) }
+  unfolding exec carried plan planRecover recoverFrom recoverPlan recoveredMap recoveredState scanOf applyOp dataAt
+  recovers g k entries z es number len new load zone scan num three four =
+      rw (lent-on g, len, newest-page (flat qs) qs (page-flat qs sized) (mapPages g) (g .pages), new, load-on k (mapPages g), load, page-flat qs sized (k + mapPages g), zone, scan-on (flat qs) qs (page-flat qs sized) (g .pages) (unavailableOf (zonesIn z) ++ availableOf (zonesIn z)), scan, number-on (flat qs) qs (page-flat qs sized) k, num, three, four) refl
+
+  -- ---- the strides of a format
+  module _ (g : Geometry) (k : ℕ) (len : lentOn g x ≡ true) (done : stridesDone g s (s .work) ≡ k) (ready : formatWorkOk g (world x) (s .work) ≡ true) where
+    format-strides : plan (format g) (world x) ≡ formatStride g k (world x)
+    unfolding plan planFormat
+    format-strides = rw (lent-on g, len, ready, done) refl
+
+    -- an erase, of block k
+    pub format-erases : (rs : List (List ℕ)) → ltb k (g .blocks) ≡ true → replicate (g .pages * 528) 255 ≡ flat rs
+        → exec (format g) (world x) ≡ record { answer = 255; world = device (splice qs (k * g .pages) (g .pages) rs) (blankMap g) h (withWork (freshState g) 0 0 (Format (k + 1))) }
+    unfolding exec carried formatStride formatMore withWork freshState applyOp putBlock
+    format-erases rs b r =
+        ap (λ (p : Plan). carried p (world x)) format-strides
+        ∙ rw (b, r, splice-flat qs sized (k * g .pages) (g .pages) rs) refl
+
+    -- a map page
+    pub format-maps : (q : List ℕ) → ltb k (g .blocks) ≡ false → ltb (k - g .blocks) (mapPages g) ≡ true → ands (getD qs (k - g .blocks) []) (mapPage (blankMap g) (k - g .blocks) 1) ≡ q
+        → exec (format g) (world x) ≡ record { answer = 255; world = device (splice qs (k - g .blocks) 1 (q ∷ [])) (blankMap g) h (withWork (freshState g) 0 0 (Format (k + 1))) }
+    unfolding exec carried formatStride formatMore withWork freshState
+    format-maps q b c e =
+        ap (λ (p : Plan). carried p (world x)) format-strides
+        ∙ rw (b, c, programs-on (g .pages) (k - g .blocks) (mapPage (blankMap g) (k - g .blocks) 1) q e) refl
+
+    -- the zone page
+    pub format-ends : (q : List ℕ) → ltb k (g .blocks) ≡ false → ltb (k - g .blocks) (mapPages g) ≡ false → ands (getD qs (mapPages g) []) (zonePage (mapPages g) 0 (formatZones g) 1) ≡ q
+        → exec (format g) (world x) ≡ record { answer = 0; world = device (splice qs (mapPages g) 1 (q ∷ [])) (blankMap g) h (withNumber (withZones (freshState g) (formatZones g)) 1) }
+    unfolding exec carried formatStride formatLast withZones withNumber freshState
+    format-ends q b c e =
+        ap (λ (p : Plan). carried p (world x)) format-strides
+        ∙ rw (b, c, programs-on (g .pages) (mapPages g) (zonePage (mapPages g) 0 (formatZones g) 1) q e) refl
+
+  -- the next front page is looked at
+  pub format-ready : (g : Geometry) (k : ℕ) → (leb 1 k && (leb k (g .blocks + mapPages g) && (ltb k (g .blocks) || allFF (getD qs (k - g .blocks) [])))) ≡ true → formatStrideOk g (flat qs) k ≡ true
+  unfolding formatStrideOk blankAt
+  format-ready g k e = ap (λ (q : List ℕ). leb 1 k && (leb k (g .blocks + mapPages g) && (ltb k (g .blocks) || allFF q))) (page-flat qs sized (k - g .blocks)) ∙ e
+
+  -- ---- cuts
+  -- in a call that programs page k: the due bits of which those in `lets` turn, so that the page reads q
+  module _ (c : Call) (lets : List ℕ) where
+    abbrev cut-in : Op → Event
+    cut-in o = cutIn c (programs o) (dueBits (plan c (world x) .state .geometry .pages) o (flat qs)) (turnedBits (plan c (world x) .state .geometry .pages) o lets (flat qs))
+
+    told-by : (o : Op) → plan c (world x) .op ≡ o → cutEvent c (world x) lets ≡ cut-in o
+    unfolding cutEvent
+    told-by o e = ap cut-in e
+
+    left-by : (o : Op) → plan c (world x) .op ≡ o → cutArray c (world x) lets ≡ cutOp (plan c (world x) .state .geometry .pages) o lets (flat qs)
+    unfolding cutArray
+    left-by o e = ap (λ (y : Op). cutOp (plan c (world x) .state .geometry .pages) y lets (flat qs)) e
+
+    -- nothing is programmed
+    pub idle-told : plan c (world x) .op ≡ none → cutEvent c (world x) lets ≡ cutIn c false [] []
+    unfolding dueBits turnedBits ands
+    idle-told e = told-by none e
+
+    pub idle-left : plan c (world x) .op ≡ none → cutArray c (world x) lets ≡ flat qs
+    unfolding cutOp turn
+    idle-left e = left-by none e
+
+    module _ (k : ℕ) (new old : List ℕ) (o : plan c (world x) .op ≡ program k new) (stood : getD qs k [] ≡ old) where
+      pub page-told : cutEvent c (world x) lets ≡ cutIn c true (minus old new) (ands (minus old new) lets)
+      unfolding dueBits turnedBits
+      page-told = told-by (program k new) o ∙ ap (λ (x : List ℕ). cutIn c true (minus x new) (ands (minus x new) lets)) (page-flat qs sized k ∙ stood)
+
+      pub page-left : (q : List ℕ) → minus old (ands (minus old new) lets) ≡ q → cutArray c (world x) lets ≡ flat (splice qs k 1 (q ∷ []))
+      unfolding cutOp turn turnedBits dueBits
+      page-left q e =
+          left-by (program k new) o
+          ∙ (ap (λ (x : List ℕ). putPage (flat qs) k (minus x (ands (minus x new) lets))) (page-flat qs sized k ∙ stood)
+          ∙ (ap (putPage (flat qs) k) e ∙ put-flat qs sized k q))
+
+    -- block b is erased
+    module _ (b p : ℕ) (old : List ℕ) (o : plan c (world x) .op ≡ erase b) (pages : plan c (world x) .state .geometry .pages ≡ p) (stood : flat (part (b * p) p qs) ≡ old) where
+      pub block-told : cutEvent c (world x) lets ≡ cutIn c false (zerosOf old) (ands (zerosOf old) lets)
+      unfolding dueBits turnedBits blockAt
+      block-told =
+          told-by (erase b) o
+          ∙ (ap (λ (n : ℕ). cutIn c false (zerosOf (part (b * n * 528) (n * 528) (flat qs))) (ands (zerosOf (part (b * n * 528) (n * 528) (flat qs))) lets)) pages
+          ∙ ap (λ (x : List ℕ). cutIn c false (zerosOf x) (ands (zerosOf x) lets)) (part-flat qs sized (b * p) p ∙ stood))
+
+      pub block-left : (rs : List (List ℕ)) → ors old (ands (zerosOf old) lets) ≡ flat rs → cutArray c (world x) lets ≡ flat (splice qs (b * p) p rs)
+      unfolding cutOp turn turnedBits dueBits blockAt putBlock
+      block-left rs e =
+          left-by (erase b) o
+          ∙ (ap (λ (n : ℕ). splice (flat qs) (b * n * 528) (n * 528) (ors (part (b * n * 528) (n * 528) (flat qs)) (ands (zerosOf (part (b * n * 528) (n * 528) (flat qs))) lets))) pages
+          ∙ (ap (λ (x : List ℕ). splice (flat qs) (b * p * 528) (p * 528) (ors x (ands (zerosOf x) lets))) (part-flat qs sized (b * p) p ∙ stood)
+          ∙ (ap (splice (flat qs) (b * p * 528) (p * 528)) e ∙ splice-flat qs sized (b * p) p rs)))
+
+-- ---- steps of a Run
+module _ {g : Geometry} where
+  -- a call that answers n and leaves v
+  pub answered : {w v : World} {es : List Event} {p : Phase} (c : Call) (n : ℕ) → exec c w ≡ record { answer = n; world = v } → fits c ≡ true → Allowed g c w
+      → Run g (live v) es p → Run g (live w) (called c n ∷ es) p
+  answered {w = w} c n e f a r = next (subst (λ (o : Outcome). Step g (live w) (called c (o .answer)) (live (o .world))) e (call c w f a)) r
+
+  -- a cut, of which this is told and which leaves xs
+  pub cut-short : {w : World} {xs : List ℕ} {e : Event} {es : List Event} {p : Phase} (c : Call) (lets : List ℕ) → cutEvent c w lets ≡ e → cutArray c w lets ≡ xs → fits c ≡ true → Allowed g c w
+      → Run g (dark xs) es p → Run g (live w) (e ∷ es) p
+  cut-short {w = w} {xs = xs} c lets t l f a r = next (subst (λ (y : Event). Step g (live w) y (dark xs)) t (subst (λ (ys : List ℕ). Step g (live w) (cutEvent c w lets) (dark ys)) l (cut c w lets f a))) r
+
+  -- after a cut: a recover that leaves v
+  pub recovered : {v : World} {es : List Event} {p : Phase} (w : World) → exec (recover g) w ≡ record { answer = 0; world = v } → Run g (live v) es p → Run g (dark (w .array)) (called (recover g) 0 ∷ es) p
+  recovered w e r = next (subst (λ (o : Outcome). Step g (dark (w .array)) (called (recover g) 0) (live (o .world))) e (back w (ap (λ (o : Outcome). o .answer) e))) r
+
+  -- a format: its first stride, one more, its last
+  pub format-first : {v : World} (w : World) → stridesDone g (w .state) (w .state .work) ≡ 0 → exec (format g) w ≡ record { answer = 255; world = v } → Formatting g v
+  format-first w d e = subst (λ (o : Outcome). Formatting g (o .world)) e (first w d (ap (λ (o : Outcome). o .answer) e))
+
+  pub format-more : {w v : World} → Formatting g w → exec (format g) w ≡ record { answer = 255; world = v } → Formatting g v
+  format-more {w} f e = subst (λ (o : Outcome). Formatting g (o .world)) e (more w f (ap (λ (o : Outcome). o .answer) e))
+
+  pub format-finished : {w v : World} → Formatting g w → exec (format g) w ≡ record { answer = 0; world = v } → Formatted g v
+  format-finished {w} f e = subst (λ (o : Outcome). Formatted g (o .world)) e (finished w f (ap (λ (o : Outcome). o .answer) e))
+
+  -- or a recover or format that is refused
+  pub turned-down : {v : World} {es : List Event} {p : Phase} (c : Call) (w : World) (n : ℕ) → exec c w ≡ record { answer = n; world = v } → isRecovery c ≡ true → fits c ≡ true → Allowed g c w → refused n ≡ true
+      → Run g (dark (w .array)) es p → Run g (dark (w .array)) (called c n ∷ es) p
+  turned-down c w n e i f a r t =
+      next (subst (λ (x : ℕ). Step g (dark (w .array)) (called c x) (dark (w .array))) (ap (λ (o : Outcome). o .answer) e) (failed c w i f a (ap (λ (o : Outcome). refused (o .answer)) e ∙ r))) t
+
+  pub joined : {p q r : Phase} {es fs : List Event} → Run g p es q → Run g q fs r → Run g p (es ++ fs) r
+  joined (stop p) t = t
+  joined (next s u) t = next s (joined u t)

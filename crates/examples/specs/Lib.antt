@@ -1,6 +1,7 @@
 pub mod Unfolded
-pub mod Bench
 pub mod Orders
 pub mod Rules
+pub mod Bench
+pub mod Paged
 pub mod Devices
-pub mod Instances
+pub mod Runs

@@ -1,9 +1,9 @@
 -- "Order: 1 first, then 17", then each command's own refusals, over all worlds: each law says which refusal is given whatever comes later in
 -- the order. Beside them: what buffers that fit make of a format, and what a commit and a checkpoint's strides leave alone.
-use Prim.Native.Nat.{ℕ, zero, suc, _+_, _-_, _*_, _<_}
+use Prim.Native.Nat.{ℕ, _+_, _-_, _*_, _<_}
 use mathlib.Core.Path.{_≡_, refl, ap}
 use mathlib.Core.Bool.{Bool, true, false, false≢true, not, cond, _&&_, _||_}
-use mathlib.Core.List.{List, [], _∷_}
+use mathlib.Core.List.{List}
 use lib.ListN.{length, getD, replicate, length-replicate}
 use lib.Dec.{leb, ltb, eqb}
 use borrow.Author.Tests.{leb-true, lt-ltb, eq-eqb}
@@ -11,18 +11,16 @@ use native.Mathlib.Omega.{arith}
 use Rattle.model.specs.Lists.{find}
 use Rattle.model.specs.Geometry.{unmapped, geometryOk, lengthsOk, mapPages}
 use Rattle.model.specs.Zones.{hasId, usedIn}
-use Rattle.model.specs.Checkpoint.{Found, nothing, at, newest, loadOk}
+use Rattle.model.specs.Checkpoint.{nothing, at, newest, loadOk}
 use Rattle.model.specs.Recovery.{pagesGood}
-use Rattle.model.specs.World.{World, Op, none, Plan, refuse}
-use Rattle.model.specs.Frame.{noPlace, freePlace, badId, lentOk, frameOk, isIdle, gate, freshState}
-use Rattle.model.specs.Transactions.{unless, withPlace, withVersion, placeOf, zoneShort, cleanPages, spent, begun, liveId, writePlan, lonePlan, markPlan, forgetPlan, planBegin, planWrite, planLone, planCommit, planAbort, readAnswer}
+use Rattle.model.specs.World.{World, none, Plan, refuse}
+use Rattle.model.specs.Frame.{noPlace, badId, lentOk, frameOk, isIdle, gate, freshState}
+use Rattle.model.specs.Transactions.{withPlace, placeOf, zoneShort, cleanPages, spent, begun, liveId, writePlan, lonePlan, markPlan, forgetPlan, planBegin, planWrite, planLone, planCommit, planAbort, readAnswer}
 use Rattle.model.specs.Strides.{isCheckpoint, withWork, withZones, withNumber, mapStride, zoneStride, pageStride, otherStride, firstStride, checkpointStride, planCheckpoint, mappedIn, picked, lowestFrom, isReclaim, copyStride, freeStride, reclaimStride, planReclaim, stridesDone, formatWorkOk, formatMore, formatStride, planFormat}
 use Rattle.model.specs.Recover.{entriesAt, zonesAt, scannedAt, recoverFrom, planRecover}
-use Rattle.model.specs.Commands.{Call, format, recover, begin, write, lone, commit, abort, read, checkpoint, reclaim, plan}
+use Rattle.model.specs.Commands.{format, recover, begin, write, lone, commit, abort, read, checkpoint, reclaim, plan}
 use Rattle.model.specs.declared.Geometry.{Geometry}
 use Rattle.model.specs.declared.Place.{Place}
-use Rattle.model.specs.declared.Work.{Work}
-use Rattle.model.specs.declared.Work.the-variants.{Idle, Format, Checkpoint, Reclaim}
 
 -- ---- 1 first, then 17
 -- whatever is under way, and for every command but format and recover

@@ -7,23 +7,21 @@ use mathlib.Core.Bool.{Bool, true, false}
 use mathlib.Core.List.{List, [], _∷_, _++_}
 use lib.ListN.{length, take, drop, set, replicate}
 use lib.Dec.{eqb}
-use Rattle.model.specs.Lists.{all, part, padTo}
+use Rattle.model.specs.Lists.{all, padTo}
 use Rattle.model.specs.Page.{spareOf, pageBytes, spareBytes}
 use Rattle.model.specs.Geometry.{geometryOk}
 use Rattle.model.specs.Zones.{Entry, Taken, zonesOf, listedIn, zoneListsOk, freeIndex, pastBlock, refill, slide}
 use Rattle.model.specs.Checkpoint.{Found, nothing, at, mapSpare, zoneSpare, mapBytes, zoneData, completeAt, newest, zonesIn, loadOk}
 use Rattle.model.specs.Recovery.{entryGood, applied}
-use Rattle.model.specs.World.{World, Plan}
 use Rattle.model.specs.Frame.{freePlace, placeOk, placesOk, formatStrideOk, checkpointStrideOk, workOk, freshState}
 use Rattle.model.specs.Transactions.{dataBytes, heldAt, holdWith, entered}
-use Rattle.model.specs.Strides.{withWork, mappedIn, pickFrom, lowestFrom, formatWorkOk}
-use Rattle.model.specs.Commands.{Call, format, plan}
+use Rattle.model.specs.Strides.{withWork, mappedIn, pickFrom, lowestFrom}
+use Rattle.model.specs.Commands.{format, plan}
 use Rattle.model.specs.declared.Geometry.{Geometry}
 use Rattle.model.specs.declared.Spare.{Spare}
 use Rattle.model.specs.declared.Zones.{Zones}
 use Rattle.model.specs.declared.Place.{Place}
-use Rattle.model.specs.declared.State.{State}
-use Rattle.model.specs.declared.Work.the-variants.{Idle, Format, Checkpoint, Reclaim}
+use Rattle.model.specs.declared.Work.the-variants.{Idle, Format, Reclaim}
 use Rattle.examples.specs.Unfolded.{go}
 use Rattle.examples.specs.Orders.{lent, format-answers}
 

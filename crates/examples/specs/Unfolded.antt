@@ -1,48 +1,26 @@
 -- The definitions opened, so that they compute.
-use Prim.Native.Nat.{ℕ, zero, suc}
-use mathlib.Core.Bool.{Bool}
-use mathlib.Core.List.{List, [], _∷_}
 use lib.Count.{ones, onesIn}
 use Rattle.model.specs.Lists.{all, any, allTails, allHeads, find, those, count, part, without, splice, elem, same, rising, upFrom, padTo, insert}
 use Rattle.model.specs.Bytes.{zeroBits, allFF, words, ands, ors, minus, zerosOf}
 use Rattle.model.specs.Page.{classOf, spareOf, sealed, pageBytes, pageAt, dataAt, blockAt, putPage, putBlock, blankAt, wholeAt, usedFrom}
 use Rattle.model.specs.Geometry.{geometryOk, lengthsOk, sameGeometry, mapPages, dataBlock, dataPage, blankMap, entryOk, mapOk}
-use Rattle.model.specs.Zones.{Entry, checkpointed, zonesOf, newBlock, zoneListsOk, zonesOk, usedIn, isFull, cleanIn, nextIn, entryOf, entryAt, wholeFrom, scanIn, scanOf, onPages, active, wanted, staying, leaving, holdsWanted, judged, freeIndex, pastBlock, takeOne, refill, zonesTaken, slide, formatZones, freed}
-use Rattle.model.specs.Checkpoint.{Found, mapBytes, mapPage, zoneData, zonePage, sameSpare, pageIs, mapsAt, numberAt, completeAt, newer, newestFrom, newest, loadMap, zonesIn, loadOk}
+use Rattle.model.specs.Zones.{checkpointed, zonesOf, newBlock, zoneListsOk, zonesOk, usedIn, isFull, cleanIn, nextIn, entryOf, entryAt, wholeFrom, scanIn, scanOf, onPages, active, wanted, staying, leaving, holdsWanted, judged, freeIndex, pastBlock, takeOne, refill, zonesTaken, slide, formatZones, freed}
+use Rattle.model.specs.Checkpoint.{mapBytes, mapPage, zoneData, zonePage, sameSpare, pageIs, mapsAt, numberAt, completeAt, newer, newestFrom, newest, loadMap, zonesIn, loadOk}
 use Rattle.model.specs.Recovery.{markNew, entryGood, pagesGood, ofId, pagesOf, committed, txnsIn, span, top, applied, enter, redone}
-use Rattle.model.specs.World.{World, Plan, Op, applyOp, dueBits, turnedBits, turn, cutOp, everyTurned}
+use Rattle.model.specs.World.{World, applyOp, dueBits, turnedBits, turn, cutOp, everyTurned}
 use Rattle.model.specs.Frame.{badId, placeOk, alone, placesOk, formatStrideOk, checkpointStrideOk, workOk, lentOk, frameOk, gate, freshState}
 use Rattle.model.specs.Transactions.{placeOf, withPlace, withVersion, dataBytes, heldAt, holdWith, begun, liveId, planBegin, written, heldOp, writePlan, planWrite, lonePlan, planLone, entered, markPlan, forgetPlan, planCommit, planAbort, readAnswer, readPart}
 use Rattle.model.specs.Strides.{withWork, withZones, withNumber, mapStride, zoneStride, pageStride, otherStride, firstStride, checkpointStride, planCheckpoint, mappedIn, fewer, pickFrom, picked, lowestFrom, copyStride, freeStride, reclaimStride, planReclaim, stridesDone, formatWorkOk, formatMore, formatLast, formatStride, planFormat}
 use Rattle.model.specs.Recover.{recoveredMap, recoveredState, recoverPlan, recoverFrom, planRecover}
 use Rattle.model.specs.Commands.{Call, Outcome, plan, carried, exec}
-use Rattle.model.specs.Book.{Event, Book, Content, enterAll, writesOf, addTo, close, entering, changing, tell, story}
-use Rattle.model.specs.Sequence.{cutEvent, cutArray}
-use Rattle.model.specs.declared.Class.{Class}
+use Rattle.model.specs.Book.{Event, Book, enterAll, writesOf, addTo, close, entering, changing, tell}
 
 -- what a call leads to
 unfoldable pub go : Call → World → Outcome
 unfolding ones onesIn all any allTails allHeads find those count part without splice elem same rising upFrom padTo insert zeroBits allFF words ands ors minus zerosOf classOf spareOf sealed pageBytes pageAt dataAt blockAt putPage putBlock blankAt wholeAt usedFrom geometryOk lengthsOk sameGeometry mapPages dataBlock dataPage blankMap entryOk mapOk checkpointed zonesOf newBlock zoneListsOk zonesOk usedIn isFull cleanIn nextIn entryOf entryAt wholeFrom scanIn scanOf onPages active wanted staying leaving holdsWanted judged freeIndex pastBlock takeOne refill zonesTaken slide formatZones freed mapBytes mapPage zoneData zonePage sameSpare pageIs mapsAt numberAt completeAt newer newestFrom newest loadMap zonesIn loadOk markNew entryGood pagesGood ofId pagesOf committed txnsIn span top applied enter redone applyOp dueBits turnedBits turn cutOp everyTurned badId placeOk alone placesOk formatStrideOk checkpointStrideOk workOk lentOk frameOk gate freshState placeOf withPlace withVersion dataBytes heldAt holdWith begun liveId planBegin written heldOp writePlan planWrite lonePlan planLone entered markPlan forgetPlan planCommit planAbort readAnswer readPart withWork withZones withNumber mapStride zoneStride pageStride otherStride firstStride checkpointStride planCheckpoint mappedIn fewer pickFrom picked lowestFrom copyStride freeStride reclaimStride planReclaim stridesDone formatWorkOk formatMore formatLast formatStride planFormat recoveredMap recoveredState recoverPlan recoverFrom planRecover plan carried exec
 go c w = exec c w
 
--- what reading a logical page answers and hands back
-unfoldable pub answerOf : ℕ → World → ℕ
-unfolding go
-answerOf lpn w = readAnswer lpn w
-
-unfoldable pub partOf : ℕ → World → List ℕ
-unfolding go
-partOf lpn w = readPart lpn w
-
--- the array that a cut call leaves, and what is told of the cut
-unfoldable pub cutOf : Call → World → List ℕ → List ℕ
-unfolding go cutArray
-cutOf c w lets = cutArray c w lets
-
+-- the book after an event
 unfoldable pub told : Book → Event → Book
 unfolding go tell entering changing enterAll writesOf addTo close
 told b e = tell b e
-
-unfoldable pub cutTold : Book → Call → World → List ℕ → Book
-unfolding told cutEvent
-cutTold b c w lets = tell b (cutEvent c w lets)
