@@ -10,16 +10,16 @@ use Rattle.model.specs.Lists.{find, part, splice}
 use Rattle.model.specs.Bytes.{allFF, le32, words, ands, ors, minus, zerosOf}
 use Rattle.model.specs.Page.{dataAt, blockAt, putPage, putBlock, blankAt}
 use Rattle.model.specs.Answers.{refused}
-use Rattle.model.specs.Geometry.{blankMap, geometryOk, lengthsOk, mapPages, mapOk, enterPage}
+use Rattle.model.specs.Geometry.{unmapped, blankMap, geometryOk, lengthsOk, mapPages, mapOk, enterPage}
 use Rattle.model.specs.Zones.{Entry, availableOf, unavailableOf, zonesOk, formatZones, freed, usedIn, scanOf, onPages, hasId, active}
 use Rattle.model.specs.Checkpoint.{nothing, at, mapPage, zonePage, loadMap, zonesIn, loadOk}
 use Rattle.model.specs.Recovery.{pagesGood, top, redone}
 use Rattle.model.specs.World.{World, Op, none, program, erase, Plan, refuse, applyOp, dueBits, turnedBits, turn, cutOp, programs}
 use Rattle.model.specs.Frame.{noPlace, freePlace, badId, placesOk, formatStrideOk, checkpointStrideOk, workOk, lentOk, frameOk, isIdle, gate, freshState}
-use Rattle.model.specs.Transactions.{withPlace, withVersion, dataBytes, heldAt, holdWith, heldPage, placeOf, begun, liveId, written, heldOp, writePlan, lonePlan, entered, markPlan, forgetPlan, cleanPages, nextPage, zoneShort, spent}
+use Rattle.model.specs.Transactions.{withPlace, withVersion, dataBytes, heldAt, holdWith, heldPage, placeOf, begun, liveId, written, heldOp, writePlan, lonePlan, entered, markPlan, forgetPlan, cleanPages, nextPage, zoneShort, spent, readPart}
 use Rattle.model.specs.Strides.{withWork, withZones, withNumber, isCheckpoint, isReclaim, mapStride, zoneStride, pageStride, checkpointStride, mappedIn, picked, lowestFrom, copyStride, freeStride, reclaimStride, stridesDone, formatWorkOk, formatMore, formatLast, formatStride, planFormat}
 use Rattle.model.specs.Recover.{recoveredMap, recoveredState, recoverPlan, recoverFrom, planRecover}
-use Rattle.model.specs.Commands.{Call, format, recover, begin, write, lone, commit, abort, checkpoint, reclaim, plan, carried, exec, Outcome}
+use Rattle.model.specs.Commands.{Call, format, recover, begin, write, lone, commit, abort, read, checkpoint, reclaim, plan, carried, exec, Outcome}
 use Rattle.model.specs.Book.{Event, called, cutIn}
 use Rattle.model.specs.Sequence.{Phase, live, dark, Allowed, cutEvent, cutArray, isRecovery, Step, call, cut, back, failed, Run, stop, next, Formatting, first, more, Formatted, finished, fits}
 use Rattle.model.specs.declared.Geometry.{Geometry}
@@ -149,6 +149,11 @@ module _ (x : Device) where
   pub live-on : (id : ℕ) (t : Bool) → (active id (s .places) || onPages id scanned) ≡ t → liveId id (world x) ≡ t
   unfolding liveId
   live-on id t e = ap (λ (es : List Entry). active id (s .places) || onPages id es) scanned-on ∙ e
+
+  -- reading a logical page that is mapped to page k hands back its data
+  pub reads-part : (lpn k : ℕ) (d : List ℕ) → plan (read lpn) (world x) ≡ refuse (world x) 0 → getD m lpn unmapped ≡ k → take 512 (getD qs k []) ≡ d → readPart lpn (world x) ≡ d
+  unfolding plan readPart dataAt
+  reads-part lpn k d a e t = rw (ap (λ (p : Plan). p .answer) a, e, page-flat qs sized k) t
 
   -- programming page k so that it reads q
   pub programs-on : (p k : ℕ) (new q : List ℕ) → ands (getD qs k []) new ≡ q → applyOp p (program k new) (flat qs) ≡ flat (splice qs k 1 (q ∷ []))

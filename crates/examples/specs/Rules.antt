@@ -13,9 +13,10 @@ use Rattle.model.specs.Geometry.{geometryOk}
 use Rattle.model.specs.Zones.{Entry, Taken, zonesOf, listedIn, zoneListsOk, freeIndex, pastBlock, refill, slide}
 use Rattle.model.specs.Checkpoint.{Found, nothing, at, mapSpare, zoneSpare, mapBytes, zoneData, completeAt, newest, zonesIn, loadOk}
 use Rattle.model.specs.Recovery.{entryGood, applied}
+use Rattle.model.specs.World.{World}
 use Rattle.model.specs.Frame.{freePlace, placeOk, placesOk, formatStrideOk, checkpointStrideOk, workOk, freshState}
 use Rattle.model.specs.Transactions.{dataBytes, heldAt, holdWith, entered}
-use Rattle.model.specs.Strides.{withWork, mappedIn, pickFrom, lowestFrom}
+use Rattle.model.specs.Strides.{withWork, mappedIn, pickFrom, lowestFrom, stridesDone, formatWorkOk}
 use Rattle.model.specs.Commands.{format, plan}
 use Rattle.model.specs.declared.Geometry.{Geometry}
 use Rattle.model.specs.declared.Spare.{Spare}
@@ -53,7 +54,17 @@ pub data Rule : Type 0 where
   newest-first : Rule
   newest-highest : Rule
   complete-spare : Rule
-  checkpoint-refused : Rule
+  load-passes : Rule
+  load-map-outside : Rule
+  load-map-repeated : Rule
+  load-unused-entry : Rule
+  load-counts : Rule
+  load-pointer : Rule
+  load-block-outside : Rule
+  load-block-repeated : Rule
+  load-four-available : Rule
+  load-not-ascending : Rule
+  load-rest : Rule
   page-passes : Rule
   page-kind : Rule
   page-reserved : Rule
@@ -75,6 +86,7 @@ pub data Rule : Type 0 where
   ends-in-block : Rule
   next-page-erased : Rule
   format-stride : Rule
+  format-anew : Rule
   no-first-page : Rule
   hold-by-place : Rule
   later-holds : Rule
@@ -125,8 +137,8 @@ shape b p l = record { blocks = b; pages = p; logical = l }
 abbrev pub small : Geometry
 small = shape 8 8 16
 
-abbrev pub nothingYet : List ℕ
-nothingYet = replicate 528 255
+abbrev pub erasedPage : List ℕ
+erasedPage = replicate 528 255
 
 -- a page of the change with this identifier, without a mark
 abbrev pub pageOf : ℕ → List ℕ
@@ -137,7 +149,7 @@ abbrev pub both : ℕ → ℕ → List ℕ
 both i j = pageOf i ++ pageOf j
 
 abbrev pub half : ℕ → List ℕ
-half i = pageOf i ++ nothingYet
+half i = pageOf i ++ erasedPage
 
 -- the front, then blocks 2, 3, 4 of two pages
 abbrev pub array3 : List ℕ → List ℕ → List ℕ → List ℕ
@@ -146,21 +158,22 @@ array3 x y z = replicate (4 * 528) 255 ++ (x ++ (y ++ z))
 abbrev pub empty2 : List ℕ
 empty2 = replicate (2 * 528) 255
 
--- a free place, and one of identifier id with these pages written
+-- a place of this identifier and count, with these logical pages and page numbers
 abbrev pub placed : ℕ → ℕ → List ℕ → List ℕ → Place
 placed id n ls ps = record { id = id; count = n; lpns = padTo 64 ls; ppns = padTo 64 ps }
 
+-- what a checkpoint makes of zones with the pointer at 4
 abbrev pub slid : List ℕ → List Place → List ℕ → List ℕ → List ℕ → List ℕ
 slid xs ps a u f = zonesGiven (slide (shape 8 2 1) xs ps (zonesOf a u f 4))
 
--- a zone page with number n and this spare area
+-- a page of zeros with this spare area
 abbrev pub zoned : Spare → List ℕ
 zoned s = pageBytes (replicate 512 0) s
 
 abbrev pub completes : Spare → ℕ
 completes s = flag (completeAt (zoned s) 0 0)
 
--- map entries of two logical pages and an unused one, and the bytes of a zone page
+-- whether refusal 3 passes map entries of two logical pages and an unused one, and the bytes of a zone page
 abbrev pub loads : List ℕ → List ℕ → ℕ
 loads entries z = flag (loadOk (shape 8 8 2) entries z)
 
@@ -174,9 +187,11 @@ zoneFine = 0 ∷ 0 ∷ 0 ∷ 0 ∷ 5 ∷ 2 ∷ 1 ∷ 2 ∷ 3 ∷ 2 ∷ 4 ∷ 5 �
 abbrev pub entry : ℕ → ℕ → ℕ → ℕ → Entry
 entry lpn cnt id ver = record { ppn = 16; lpn = lpn; cnt = cnt; id = id; ver = ver; kind = 0; reserved = 0 }
 
+-- whether refusal 4 passes it, L being 16, after those seen
 abbrev pub good : List Entry → Entry → ℕ
 good seen e = flag (entryGood 16 seen e)
 
+-- whether refusal 1 passes a checkpoint under way: front block, first page, pages programmed
 abbrev pub strides : ℕ → ℕ → ℕ → List ℕ → ℕ
 strides f q k xs = flag (checkpointStrideOk small xs f q k)
 
@@ -193,8 +208,12 @@ erased3 = replicate (3 * 528) 255
 abbrev pub used1 : List ℕ
 used1 = replicate 528 255 ++ (replicate 528 0 ++ replicate 528 255)
 
-abbrev pub formatted : ℕ → List ℕ → ℕ
-formatted k xs = flag (formatStrideOk small xs k)
+abbrev pub formatStrides : ℕ → List ℕ → ℕ
+formatStrides k xs = flag (formatStrideOk small xs k)
+
+-- a format of this geometry under way, k strides done
+abbrev pub striding : Geometry → ℕ → World
+striding g k = record { array = []; map = []; hold = []; state = withWork (freshState g) 0 0 (Format k) }
 
 abbrev pub twoHeld : List ℕ
 twoHeld = replicate 512 0 ++ replicate 512 1
@@ -296,18 +315,25 @@ newestRows =
 -- ---- refusal 3: what passes, then a row for each clause
 abbrev pub loadRows : List Row
 loadRows =
-    record { rule = checkpoint-refused; gives = loads mapFine zoneFine ∷ []; says = 1 ∷ [] }
+    record { rule = load-passes; gives = loads mapFine zoneFine ∷ []; says = 1 ∷ [] }
+    ∷ record { rule = load-map-outside; gives = loads (15 ∷ 65535 ∷ 65535 ∷ []) zoneFine ∷ loads (64 ∷ 65535 ∷ 65535 ∷ []) zoneFine ∷ loads (63 ∷ 65535 ∷ 65535 ∷ []) zoneFine ∷ []; says = 0 ∷ 0 ∷ 1 ∷ [] }
+    ∷ record { rule = load-map-repeated; gives = loads (16 ∷ 16 ∷ 65535 ∷ []) zoneFine ∷ []; says = 0 ∷ [] }
+    ∷ record { rule = load-unused-entry; gives = loads (16 ∷ 65535 ∷ 17 ∷ []) zoneFine ∷ []; says = 0 ∷ [] }
     ∷ record {
-      rule = checkpoint-refused;
-      gives = loads (15 ∷ 65535 ∷ 65535 ∷ []) zoneFine ∷ loads (64 ∷ 65535 ∷ 65535 ∷ []) zoneFine ∷ loads (16 ∷ 16 ∷ 65535 ∷ []) zoneFine ∷ loads (16 ∷ 65535 ∷ 17 ∷ []) zoneFine ∷ [];
-      says = 0 ∷ 0 ∷ 0 ∷ 0 ∷ [];
+      rule = load-counts;
+      gives = flag (zoneListsOk small 3 3 1 (2 ∷ 3 ∷ 4 ∷ []) (5 ∷ 6 ∷ []) (7 ∷ []) 5) ∷ flag (zoneListsOk small 3 2 1 (2 ∷ 3 ∷ 4 ∷ []) (5 ∷ 6 ∷ []) (7 ∷ []) 5) ∷ [];
+      says = 0 ∷ 1 ∷ [];
     }
-    ∷ record { rule = checkpoint-refused; gives = flag (zoneListsOk small 3 3 1 (2 ∷ 3 ∷ 4 ∷ []) (5 ∷ 6 ∷ []) (7 ∷ []) 5) ∷ flag (zoneListsOk small 3 2 1 (2 ∷ 3 ∷ 4 ∷ []) (5 ∷ 6 ∷ []) (7 ∷ []) 5) ∷ []; says = 0 ∷ 1 ∷ [] }
-    ∷ record { rule = checkpoint-refused; gives = loads mapFine (set zoneFine 4 1) ∷ loads mapFine (set zoneFine 4 8) ∷ loads mapFine (set zoneFine 4 2) ∷ loads mapFine (set zoneFine 4 7) ∷ []; says = 0 ∷ 0 ∷ 1 ∷ 1 ∷ [] }
-    ∷ record { rule = checkpoint-refused; gives = loads mapFine (set zoneFine 8 1) ∷ loads mapFine (set zoneFine 8 8) ∷ loads mapFine (set zoneFine 8 4) ∷ []; says = 0 ∷ 0 ∷ 0 ∷ [] }
-    ∷ record { rule = checkpoint-refused; gives = loads mapFine (0 ∷ 0 ∷ 0 ∷ 0 ∷ 5 ∷ 4 ∷ 0 ∷ 0 ∷ 2 ∷ 3 ∷ 4 ∷ 5 ∷ []) ∷ []; says = 0 ∷ [] }
-    ∷ record { rule = checkpoint-refused; gives = loads mapFine (set (set zoneFine 11 6) 12 5) ∷ []; says = 0 ∷ [] }
-    ∷ record { rule = checkpoint-refused; gives = loads mapFine (set zoneFine 13 1) ∷ loads mapFine (set zoneFine 14 1) ∷ []; says = 0 ∷ 0 ∷ [] }
+    ∷ record {
+      rule = load-pointer;
+      gives = loads mapFine (set zoneFine 4 1) ∷ loads mapFine (set zoneFine 4 8) ∷ loads mapFine (set zoneFine 4 2) ∷ loads mapFine (set zoneFine 4 7) ∷ [];
+      says = 0 ∷ 0 ∷ 1 ∷ 1 ∷ [];
+    }
+    ∷ record { rule = load-block-outside; gives = loads mapFine (set zoneFine 8 1) ∷ loads mapFine (set zoneFine 8 8) ∷ loads mapFine (set zoneFine 8 7) ∷ []; says = 0 ∷ 0 ∷ 1 ∷ [] }
+    ∷ record { rule = load-block-repeated; gives = loads mapFine (set zoneFine 8 4) ∷ []; says = 0 ∷ [] }
+    ∷ record { rule = load-four-available; gives = loads mapFine (0 ∷ 0 ∷ 0 ∷ 0 ∷ 5 ∷ 4 ∷ 0 ∷ 0 ∷ 2 ∷ 3 ∷ 4 ∷ 5 ∷ []) ∷ []; says = 0 ∷ [] }
+    ∷ record { rule = load-not-ascending; gives = loads mapFine (set (set zoneFine 11 6) 12 5) ∷ []; says = 0 ∷ [] }
+    ∷ record { rule = load-rest; gives = loads mapFine (set zoneFine 13 1) ∷ loads mapFine (set zoneFine 14 1) ∷ []; says = 0 ∷ 0 ∷ [] }
     ∷ []
 
 -- ---- refusal 4: what passes, then a row for each clause
@@ -361,8 +387,14 @@ strideRows =
     ∷ record { rule = next-page-erased; gives = strides 0 0 0 used1 ∷ strides 0 0 1 used1 ∷ []; says = 1 ∷ 0 ∷ [] }
     ∷ record {
       rule = format-stride;
-      gives = formatted 0 erased3 ∷ formatted 1 used1 ∷ formatted 8 used1 ∷ formatted 9 used1 ∷ formatted 9 erased3 ∷ formatted 10 erased3 ∷ [];
+      gives = formatStrides 0 erased3 ∷ formatStrides 1 used1 ∷ formatStrides 8 used1 ∷ formatStrides 9 used1 ∷ formatStrides 9 erased3 ∷ formatStrides 10 erased3 ∷ [];
       says = 0 ∷ 1 ∷ 1 ∷ 0 ∷ 1 ∷ 0 ∷ [];
+    }
+    ∷ record {
+      rule = format-anew;
+      gives = flag (formatWorkOk small (striding (shape 9 8 8) 99) (Format 99)) ∷ flag (formatWorkOk small (striding small 99) (Format 99))
+          ∷ stridesDone small (striding (shape 9 8 8) 3 .state) (Format 3) ∷ stridesDone small (striding small 3 .state) (Format 3) ∷ [];
+      says = 1 ∷ 0 ∷ 0 ∷ 3 ∷ [];
     }
     ∷ record {
       rule = no-first-page;
@@ -429,7 +461,7 @@ newest-rows = (refl, (refl, (refl, (refl, tt))))
 
 load-rows : Every loadRows
 unfolding go
-load-rows = (refl, (refl, (refl, (refl, (refl, (refl, (refl, (refl, tt))))))))
+load-rows = (refl, (refl, (refl, (refl, (refl, (refl, (refl, (refl, (refl, (refl, (refl, tt)))))))))))
 
 page-rows : Every pageRows
 unfolding go
@@ -441,7 +473,7 @@ place-rows = (refl, (refl, (refl, (refl, (refl, (refl, tt))))))
 
 stride-rows : Every strideRows
 unfolding go
-stride-rows = (refl, (refl, (refl, (refl, (refl, (refl, (refl, tt)))))))
+stride-rows = (refl, (refl, (refl, (refl, (refl, (refl, (refl, (refl, tt))))))))
 
 change-rows : Every changeRows
 unfolding go

@@ -12,7 +12,7 @@ use Rattle.model.specs.Zones.{zonesOf, onPages, hasId, active}
 use Rattle.model.specs.Checkpoint.{nothing, at, mapPage, zonePage, zoneData}
 use Rattle.model.specs.World.{Plan, refuse}
 use Rattle.model.specs.Frame.{freePlace, freshState, badId}
-use Rattle.model.specs.Transactions.{dataBytes, withPlace, begun}
+use Rattle.model.specs.Transactions.{readPart, dataBytes, withPlace, begun}
 use lib.Dec.{leb, ltb}
 use Rattle.model.specs.Strides.{withWork, stridesDone, formatWorkOk}
 use Rattle.model.specs.Commands.{format, recover, begin, write, lone, commit, abort, read, checkpoint, reclaim, plan, exec}
@@ -28,7 +28,7 @@ use Rattle.examples.specs.Unfolded.{go, told}
 use Rattle.examples.specs.Rules.{small}
 use Rattle.examples.specs.Orders.{begin-6 as begin-6-law, begin-7 as begin-7-law, begin-9 as begin-9-law, begin-17, write-5, write-8, write-11, read-14, read-0, reclaim-strides, reclaim-none, recover-1, format-1}
 use Rattle.examples.specs.Paged.{flat, Sized, sized-take, sized-append, sized-replicate, usedOn, cleanOn, nextOn, entryOn, wholeOn, scanOn, isOn, mapsOn, completeOn, newerOn, newestOn, fullOn, slideOn}
-use Rattle.examples.specs.Devices.{Device, world, device, lentOn, frameOn, workOn, format-erases, format-maps, format-ends, format-ready, format-first, format-more, format-finished, refused-stays, passes, busy, lent-on, live-on, begins, begin-op, lone-op, lone-writes, first-write, next-write, commit-op, commits, aborts, checkpoint-begins, checkpoint-ends, reclaim-copies, reclaim-erases, reclaim-op, reclaim-shape, loadOn, recovers, idle-told, idle-left, page-told, page-left, block-told, block-left, answered, cut-short, recovered, turned-down, joined}
+use Rattle.examples.specs.Devices.{Device, world, device, lentOn, frameOn, workOn, format-erases, format-maps, format-ends, format-ready, format-first, format-more, format-finished, refused-stays, passes, busy, reads-part, lent-on, live-on, begins, begin-op, lone-op, lone-writes, first-write, next-write, commit-op, commits, aborts, checkpoint-begins, checkpoint-ends, reclaim-copies, reclaim-erases, reclaim-op, reclaim-shape, loadOn, recovers, idle-told, idle-left, page-told, page-left, block-told, block-left, answered, cut-short, recovered, turned-down, joined}
 
 -- ---- pages
 abbrev pub blank : List ℕ
@@ -416,7 +416,11 @@ run1 =
     (recovered (world (handed w4)) recover-4
     (stop _)))))))))))
 
--- ---- 2: its identifier is live still; the same writes in another change, its commit cut at its last bit
+-- ---- 2: nothing of it reads back and its identifier is live still; the same writes in another change, its commit cut at its last bit
+read-3-still : exec (read 3) (world w4) ≡ record { answer = 14; world = world w4 }
+unfolding paged
+read-3-still = refused-stays (read 3) (world w4) 14 (read-14 (world w4) (passes w4 true refl refl refl) 3 refl refl)
+
 begin-5-on-page : exec (begin 5) (world w4) ≡ record { answer = 7; world = world w4 }
 unfolding paged p16 p17
 begin-5-on-page = refused-stays (begin 5) (world w4) 7 (begin-7-law (world w4) (passes w4 false refl refl refl) 5 refl (live-on w4 5 true refl))
@@ -445,9 +449,19 @@ recover-8 : exec (recover small) (world (handed w8)) ≡ record { answer = 0; wo
 unfolding paged map1 zone1 p16 p17 p18 p19
 recover-8 = recovers (handed w8) small 0 (replicate 256 65535) (zoneData 0 zones1) (record { ppn = 16; lpn = 3; cnt = 0; id = 5; ver = 0; kind = 0; reserved = 0 } ∷ record { ppn = 18; lpn = 3; cnt = 0; id = 6; ver = 0; kind = 0; reserved = 0 } ∷ record { ppn = 19; lpn = 4; cnt = 2; id = 6; ver = 1; kind = 0; reserved = 0 } ∷ []) 1 refl refl refl refl refl refl refl refl
 
+-- both its pages read back
+read-zeros : readPart 3 (world w8) ≡ zeros
+unfolding paged p18
+read-zeros = reads-part w8 3 18 zeros (read-0 (world w8) (passes w8 true refl refl refl) 3 refl refl) refl refl
+
+read-ones : readPart 4 (world w8) ≡ ones
+unfolding paged p19
+read-ones = reads-part w8 4 19 ones (read-0 (world w8) (passes w8 true refl refl refl) 4 refl refl) refl refl
+
 abbrev pub events2 : List Event
 events2 =
-    called (begin 5) 7
+    called (read 3) 14
+    ∷ called (begin 5) 7
     ∷ called (begin 6) 0
     ∷ called (write 6 3 zeros) 0
     ∷ called (write 6 4 ones) 0
@@ -458,13 +472,14 @@ events2 =
 pub run2 : Run small (live (world w4)) events2 (live (world w8))
 unfolding go fits bytes refused
 run2 =
-    answered (begin 5) 7 begin-5-on-page refl tt
+    answered (read 3) 14 read-3-still refl tt
+    (answered (begin 5) 7 begin-5-on-page refl tt
     (answered (begin 6) 0 begin-6 refl tt
     (answered (write 6 3 zeros) 0 write-6-3 refl tt
     (answered (write 6 4 ones) 0 write-6-4 refl tt
     (cut-short (commit 6) [] commit-6-told commit-6-left refl tt
     (recovered (world (handed w8)) recover-8
-    (stop _))))))
+    (stop _)))))))
 
 -- ---- 3: read, a commit, an abort, a lone write
 read-3 : exec (read 3) (world w8) ≡ record { answer = 0; world = world w8 }
