@@ -12,6 +12,7 @@ ghost use Rattle.bokuhira.specs.Calls.{Result, called, startFrom, sized,
 use device::Device;
 use device::Reply;
 use model::Geometry;
+use model::Spare;
 use model::State;
 
 /// The device whose state the bytes say.
@@ -226,7 +227,7 @@ pub extern "C" fn bokuhira_read(
         return n;
     }
     let i = lpn as usize;
-    *at = map[i] as usize * 528;
+    *at = map[i] as usize * Spare::PAGE;
     n
 }
 

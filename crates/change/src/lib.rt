@@ -59,8 +59,8 @@ pub fn program_held(array: &mut [u8], k: usize, hold: &[u8], i: usize, s: Spare)
     requires { ⌜ (k * 528 + 528 ≤ length (now array)) × ((length (now hold) ≡ 4096) × (i < 8)) ⌝ }
     ensures { λ _. ⌜ Programmed (now (array .entry)) k (pageBytes (heldAt i (now (hold .entry))) s) (now (array .exit)) ⌝ }
 {
-    let a = 512 * i;
-    let e = a + 512;
+    let a = Spare::DATA * i;
+    let e = a + Spare::DATA;
     flash::program_at(array, k, &hold[a..e], s);
 }
 
@@ -69,13 +69,13 @@ pub fn hold_page(hold: &mut [u8], i: usize, data: &[u8])
     requires { ⌜ (length (now hold) ≡ 4096) × ((i < 8) × (length (now «data») ≡ 512)) ⌝ }
     ensures { λ _. ⌜ now (hold .exit) ≡ holdWith (now (hold .entry)) i (now («data» .entry)) ⌝ }
 {
-    let a = 512 * i;
-    let e = a + 512;
+    let a = Spare::DATA * i;
+    let e = a + Spare::DATA;
     let n = bytes::copy(data, &mut hold[a..e]);
 }
 
 /// Enters the first n pages of a place in the map, in write order.
-pub fn enter(map: &mut [u16], lpns: [u16; 64], ppns: [u16; 64], n: usize)
+pub fn enter(map: &mut [u16], lpns: [u16; Place::PAGES], ppns: [u16; Place::PAGES], n: usize)
     requires { ⌜ (n ≤ 64) × (all (λ (l : ℕ). ltb l (length (now map))) (take n lpns) ≡ true) ⌝ }
     ensures { λ _. ⌜ now (map .exit) ≡ entered (now (map .entry)) lpns ppns n ⌝ }
 {

@@ -11,9 +11,6 @@ use model::Map;
 use model::Spare;
 use model::Zones;
 
-/// How many entries a map page has.
-const ENTRIES: usize = Map::ENTRIES_A_PAGE as usize;
-
 /// A page or a block that was looked for.
 pub enum Found {
     Nothing,
@@ -31,14 +28,14 @@ fn entry_at(map: &[u16], k: usize) -> u16
 }
 
 /// The data of map page i.
-pub fn map_data(map: &[u16], i: usize) -> [u8; Spare::LPN]
+pub fn map_data(map: &[u16], i: usize) -> [u8; Spare::DATA]
     requires { ⌜ i < 4 ⌝ }
     ensures { λ r. ⌜ r ≡ mapBytes (now (map .entry)) (256 * i) 256 ⌝ }
 {
-    let mut d = [0u8; Spare::LPN];
+    let mut d = [0u8; Spare::DATA];
     let mut j: usize = 0;
-    while j < ENTRIES {
-        let x = entry_at(map, ENTRIES * i + j);
+    while j < Map::ENTRIES_A_PAGE {
+        let x = entry_at(map, Map::ENTRIES_A_PAGE * i + j);
         d[2 * j] = (x % 256) as u8;
         d[2 * j + 1] = (x / 256) as u8;
         j += 1;
@@ -77,14 +74,14 @@ pub fn zone_spare(m: usize, n: u32) -> Spare
 }
 
 /// The data of the zone page.
-pub fn zone_data(version: u32, z: Zones) -> [u8; Spare::LPN]
+pub fn zone_data(version: u32, z: Zones) -> [u8; Spare::DATA]
     requires { ⌜ Counted z ⌝ }
     ensures { λ r. ⌜ r ≡ zoneData version z ⌝ }
 {
     let all = blocks::listed(z);
     let list = all.list;
     let n = all.n;
-    let mut d = [0u8; Spare::LPN];
+    let mut d = [0u8; Spare::DATA];
     d[0] = (version % 256) as u8;
     d[1] = (version / 256 % 256) as u8;
     d[2] = (version / 65536 % 256) as u8;

@@ -113,9 +113,9 @@ fn load_place(from: &[u8], i: usize) -> Place
     ensures { λ r. ⌜ r ≡ placeFrom (now (from .entry)) i ⌝ }
 {
     let at = 278 + 261 * i;
-    let mut lpns = [0u16; 64];
+    let mut lpns = [0u16; Place::PAGES];
     load_halves(from, at + 5, &mut lpns);
-    let mut ppns = [0u16; 64];
+    let mut ppns = [0u16; Place::PAGES];
     load_halves(from, at + 133, &mut ppns);
     Place {
         id: page::word32(from, at),
@@ -126,7 +126,7 @@ fn load_place(from: &[u8], i: usize) -> Place
 }
 
 /// The places among the bytes.
-fn load_places(from: &[u8]) -> [Place; 8]
+fn load_places(from: &[u8]) -> [Place; State::PLACES]
     requires { ⌜ length (now from) ≡ 2366 ⌝ }
     ensures { λ r. ⌜ r ≡ placesIn (now (from .entry)) 8 ⌝ }
 {
@@ -262,12 +262,12 @@ fn put_place(to: &mut [u8], i: usize, p: Place)
 }
 
 /// Puts the places among the bytes.
-fn put_places(to: &mut [u8], places: [Place; 8])
+fn put_places(to: &mut [u8], places: [Place; State::PLACES])
     requires { ⌜ length (now to) ≡ 2366 ⌝ }
     ensures { λ _. ⌜ Laid (now (to .entry)) 278 2088 (each placeBytes places) (now (to .exit)) ⌝ }
 {
     let mut i: usize = 0;
-    while i < 8 {
+    while i < State::PLACES {
         let p = places[i];
         put_place(to, i, p);
         i += 1;

@@ -17,7 +17,7 @@ use model::State;
 use model::Work;
 
 /// Whether the first n logical page numbers are in range.
-fn lpns_ok(lpns: [u16; 64], n: usize, logical: u16) -> bool
+fn lpns_ok(lpns: [u16; Place::PAGES], n: usize, logical: u16) -> bool
     requires { ⌜ n ≤ 64 ⌝ }
     ensures { λ r. ⌜ r ≡ all (λ (l : ℕ). ltb l logical) (take n lpns) ⌝ }
 {
@@ -32,7 +32,7 @@ fn lpns_ok(lpns: [u16; 64], n: usize, logical: u16) -> bool
 }
 
 /// Whether the first n page numbers are of data blocks.
-fn ppns_ok(g: Geometry, ppns: [u16; 64], n: usize) -> bool
+fn ppns_ok(g: Geometry, ppns: [u16; Place::PAGES], n: usize) -> bool
     requires { ⌜ (geometryOk g ≡ true) × (n ≤ 64) ⌝ }
     ensures { λ r. ⌜ r ≡ all (dataPage g) (take n ppns) ⌝ }
 {
@@ -78,7 +78,7 @@ fn place_ok(g: Geometry, p: Place) -> bool
 }
 
 /// Whether no later place shares the identifier of place i, or it is free.
-fn is_alone(places: [Place; 8], i: usize) -> bool
+fn is_alone(places: [Place; State::PLACES], i: usize) -> bool
     requires { ⌜ i < 8 ⌝ }
     ensures { λ r. ⌜ r ≡ alone (getD places i noPlace) (drop (i + 1) places) ⌝ }
 {
@@ -87,7 +87,7 @@ fn is_alone(places: [Place; 8], i: usize) -> bool
         return true;
     }
     let mut j = i + 1;
-    while j < 8 {
+    while j < State::PLACES {
         let q = places[j];
         if q.id == p.id {
             return false;
@@ -98,12 +98,12 @@ fn is_alone(places: [Place; 8], i: usize) -> bool
 }
 
 /// Whether the places are in range, and no two share an identifier.
-fn places_ok(g: Geometry, places: [Place; 8]) -> bool
+fn places_ok(g: Geometry, places: [Place; State::PLACES]) -> bool
     requires { ⌜ geometryOk g ≡ true ⌝ }
     ensures { λ r. ⌜ r ≡ placesOk g places ⌝ }
 {
     let mut i: usize = 0;
-    while i < 8 {
+    while i < State::PLACES {
         let p = places[i];
         if !place_ok(g, p) {
             return false;

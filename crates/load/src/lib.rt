@@ -18,9 +18,6 @@ use model::Zones;
 /// How many front blocks there are.
 const FRONT: usize = Geometry::FRONT_BLOCKS as usize;
 
-/// How many entries a map page has.
-const ENTRIES: usize = Map::ENTRIES_A_PAGE as usize;
-
 /// The entries of the map page k.
 fn load_page(array: &[u8], k: usize, to: &mut [u16])
     requires { ⌜ (k * 528 + 528 ≤ length (now array)) × (length (now to) ≡ 256) ⌝ }
@@ -28,7 +25,7 @@ fn load_page(array: &[u8], k: usize, to: &mut [u16])
 {
     let page = flash::page_of(array, k);
     let mut i: usize = 0;
-    while i < ENTRIES {
+    while i < Map::ENTRIES_A_PAGE {
         to[i] = page::word16(page, 2 * i);
         i += 1;
     }
@@ -42,8 +39,8 @@ pub fn load_map(array: &[u8], k: usize, m: usize) -> [u16; 1024]
     let mut entries = [0u16; 1024];
     let mut i: usize = 0;
     while i < m {
-        let a = ENTRIES * i;
-        let e = a + ENTRIES;
+        let a = Map::ENTRIES_A_PAGE * i;
+        let e = a + Map::ENTRIES_A_PAGE;
         load_page(array, k + i, &mut entries[a..e]);
         i += 1;
     }

@@ -36,7 +36,7 @@ impl Map {
     pub const UNMAPPED: u16 = 0xFFFF;
 
     /// Entries on one map page of a checkpoint.
-    pub const ENTRIES_A_PAGE: u16 = 256;
+    pub const ENTRIES_A_PAGE: usize = 256;
 }
 
 /// The spare area of a page before Zeros: LPN, TxCnt, TxID, TxVer, Kind, Reserved.
@@ -52,6 +52,9 @@ pub struct Spare {
 
 /// Offsets within the page of 528 bytes: document 01's spare offsets after 512 bytes of data.
 impl Spare {
+    /// The bytes of data before the spare area.
+    pub const DATA: usize = 512;
+
     pub const LPN: usize = 512;
 
     pub const CNT: usize = 514;
@@ -162,8 +165,8 @@ impl Place {
         Place {
             id: 0,
             count: 0,
-            lpns: [0u16; 64],
-            ppns: [0u16; 64],
+            lpns: [0u16; Place::PAGES],
+            ppns: [0u16; Place::PAGES],
         }
     }
 }
@@ -206,7 +209,7 @@ impl State {
     {
         let z = Zones::empty();
         let p = Place::free();
-        let ps = [p; 8];
+        let ps = [p; State::PLACES];
         State {
             geometry: g,
             zones: z,

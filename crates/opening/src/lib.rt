@@ -41,7 +41,7 @@ pub fn begin(s: State, array: &[u8], map: &[u16], hold: &[u8], id: u32) -> Strid
         };
     }
     let i = places::find_id(ps, 0);
-    if i >= 8 {
+    if i >= State::PLACES {
         return Stride {
             answer: Answer::Refused(Refusal::PlacesFull),
             state: s,
@@ -68,7 +68,7 @@ pub fn abort(s: State, array: &[u8], map: &[u16], hold: &[u8], id: u32) -> Strid
     }
     let ps = s.places;
     let i = places::place_of(ps, id);
-    if i >= 8 {
+    if i >= State::PLACES {
         return Stride {
             answer: Answer::Refused(Refusal::NotBegun),
             state: s,

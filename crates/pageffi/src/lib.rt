@@ -43,7 +43,7 @@ pub extern "C" fn pageffi_program(
     if page.len() != Spare::PAGE {
         return;
     }
-    if data.len() != 512 {
+    if data.len() != Spare::DATA {
         return;
     }
     page::program(

@@ -23,47 +23,47 @@ pub fn bad_id(id: u32) -> bool
 }
 
 /// The first place with an identifier, or 8.
-pub fn find_id(places: [Place; 8], id: u32) -> usize
+pub fn find_id(places: [Place; State::PLACES], id: u32) -> usize
     ensures { λ r. ⌜ r ≡ find (hasId id) places ⌝ }
 {
     let mut i: usize = 0;
-    while i < 8 {
+    while i < State::PLACES {
         let p = places[i];
         if p.id == id {
             return i;
         }
         i += 1;
     }
-    8
+    State::PLACES
 }
 
 /// The place of an active identifier, or 8.
-pub fn place_of(places: [Place; 8], id: u32) -> usize
+pub fn place_of(places: [Place; State::PLACES], id: u32) -> usize
     ensures { λ r. ⌜ r ≡ placeOf places id ⌝ }
 {
     if id == 0 {
-        return 8;
+        return State::PLACES;
     }
     find_id(places, id)
 }
 
 /// Whether an identifier is active.
-pub fn is_active(places: [Place; 8], id: u32) -> bool
+pub fn is_active(places: [Place; State::PLACES], id: u32) -> bool
     ensures { λ r. ⌜ r ≡ active id places ⌝ }
 {
     if id == 0 {
         return false;
     }
-    find_id(places, id) < 8
+    find_id(places, id) < State::PLACES
 }
 
 /// The identifiers of the places, 0 for a free one.
-pub fn ids_of(places: [Place; 8]) -> [u32; 8]
+pub fn ids_of(places: [Place; State::PLACES]) -> [u32; State::PLACES]
     ensures { λ r. ⌜ r ≡ idsOf places ⌝ }
 {
-    let mut ids = [0u32; 8];
+    let mut ids = [0u32; State::PLACES];
     let mut i: usize = 0;
-    while i < 8 {
+    while i < State::PLACES {
         let p = places[i];
         ids[i] = p.id;
         i += 1;
@@ -72,14 +72,14 @@ pub fn ids_of(places: [Place; 8]) -> [u32; 8]
 }
 
 /// Whether an identifier other than 0 is among these.
-pub fn is_active_in(ids: [u32; 8], id: u32) -> bool
+pub fn is_active_in(ids: [u32; State::PLACES], id: u32) -> bool
     ensures { λ r. ⌜ r ≡ activeIn id ids ⌝ }
 {
     if id == 0 {
         return false;
     }
     let mut i: usize = 0;
-    while i < 8 {
+    while i < State::PLACES {
         if ids[i] == id {
             return true;
         }
@@ -95,8 +95,8 @@ pub fn begun(id: u32) -> Place
     Place {
         id,
         count: 0,
-        lpns: [0u16; 64],
-        ppns: [0u16; 64],
+        lpns: [0u16; Place::PAGES],
+        ppns: [0u16; Place::PAGES],
     }
 }
 

@@ -20,9 +20,6 @@ const FRONT: usize = Geometry::FRONT_BLOCKS as usize;
 /// The first data block.
 const FIRST: u8 = Geometry::FRONT_BLOCKS as u8;
 
-/// How many entries a map page has.
-const ENTRIES: usize = Map::ENTRIES_A_PAGE as usize;
-
 /// Whether a geometry is in range.
 pub fn geometry_ok(g: Geometry) -> bool
     ensures { λ r. ⌜ r ≡ geometryOk g ⌝ }
@@ -76,7 +73,7 @@ pub fn lent_ok(g: Geometry, array: &[u8], map: &[u16], hold: &[u8]) -> bool
 pub fn map_pages(g: Geometry) -> usize
     ensures { λ r. ⌜ r ≡ mapPages g ⌝ }
 {
-    (g.logical as usize + 255) / ENTRIES
+    (g.logical as usize + 255) / Map::ENTRIES_A_PAGE
 }
 
 /// Whether every entry is unmapped, or at least lo, below hi and new.

@@ -6,6 +6,7 @@ ghost use Rattle.model.specs.Commands.{Outcome, exec, read};
 use model::Answer;
 use model::Map;
 use model::Refusal;
+use model::Spare;
 use model::State;
 
 /// What reading a logical page answers: 5, 14.
@@ -42,6 +43,6 @@ pub fn read_part<'a>(s: State, array: &'a [u8], map: &[u16], hold: &[u8], lpn: u
         return &array[zero..zero];
     }
     let page = flash::page_of(array, k as usize);
-    let end: usize = 512;
+    let end: usize = Spare::DATA;
     &page[zero..end]
 }

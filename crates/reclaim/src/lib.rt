@@ -171,8 +171,8 @@ fn copy_stride(s: State, array: &mut [u8], map: &mut [u16], j: usize) -> Stride
     let na = z.na as usize;
     let k = flash::next_in(array, s.geometry.pages as usize, &a[..na]);
     let from = j * Spare::PAGE;
-    let to = from + 512;
-    let mut d = [0u8; 512];
+    let to = from + Spare::DATA;
+    let mut d = [0u8; Spare::DATA];
     let n = bytes::copy(&array[from..to], &mut d);
     let v = s.version + 1;
     let spare = Spare {

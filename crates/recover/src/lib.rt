@@ -13,6 +13,7 @@ ghost use Rattle.strides.specs.Strode.{Strode};
 ghost use Rattle.recover.specs.Recovering.{scannedOf, recoveredOf, Scannable, Standing, Loaded};
 use model::Answer;
 use model::Geometry;
+use model::Map;
 use model::Place;
 use model::Refusal;
 use model::Spare;
@@ -84,7 +85,7 @@ fn recovered(g: Geometry, zones: Zones, version: u32, checkpoint: u32, k: usize)
     requires { ⌜ (geometryOk g ≡ true) × (k < 128) ⌝ }
     ensures { λ r. ⌜ r ≡ recoveredOf g zones version checkpoint k ⌝ }
 {
-    let ps = [Place::free(); 8];
+    let ps = [Place::free(); State::PLACES];
     State {
         geometry: g,
         zones,
@@ -135,10 +136,10 @@ pub fn recover_from(s: State, array: &[u8], map: &mut [u16], g: Geometry, k: usi
     ensures { λ r. ⌜ Strode (λ (w : World). recoverFrom g w (at k)) s (now (array .entry)) (now (map .entry)) (number (r .answer)) (now (array .entry)) (now (map .exit)) (r .state) ⌝ }
 {
     let m = ranges::map_pages(g);
-    let used = 256 * m;
+    let used = Map::ENTRIES_A_PAGE * m;
     let entries = load::load_map(array, k, m);
     let a = (k + m) * Spare::PAGE;
-    let e = a + 512;
+    let e = a + Spare::DATA;
     if !load::entries_ok(g, &entries[..used]) {
         return Stride {
             answer: Answer::Refused(Refusal::BadCheckpoint),

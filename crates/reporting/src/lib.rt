@@ -18,7 +18,7 @@ fn recovered(out: &mut [u8], array: &[u8], map: &mut [u16], g: Geometry) -> usiz
     requires { ⌜ 8192 ≤ length (now out) ⌝ }
     ensures { λ r. ⌜ Put (now (out .entry)) 0 (outcomeText (exec (recover g) (lent g (now (array .entry)) (now (map .entry))))) 8192 (now (out .exit)) r ⌝ }
 {
-    let hold = [0u8; 4096];
+    let hold = [0u8; State::HOLD];
     let s = State::fresh(g);
     let d = Device { state: s };
     let r = d.recover(array, map, &hold, g);

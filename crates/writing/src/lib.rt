@@ -9,6 +9,7 @@ ghost use Rattle.zones.specs.Judging.{Ready};
 use model::Answer;
 use model::Place;
 use model::Refusal;
+use model::Spare;
 use model::State;
 use strides::Stride;
 
@@ -42,7 +43,7 @@ pub fn write(
             state: s,
         };
     }
-    if data.len() != 512 {
+    if data.len() != Spare::DATA {
         return Stride {
             answer: Answer::Refused(Refusal::BadLength),
             state: s,
@@ -56,7 +57,7 @@ pub fn write(
     }
     let ps = s.places;
     let i = places::place_of(ps, id);
-    if i >= 8 {
+    if i >= State::PLACES {
         return Stride {
             answer: Answer::Refused(Refusal::NotBegun),
             state: s,
@@ -100,7 +101,7 @@ pub fn lone(
             state: s,
         };
     }
-    if data.len() != 512 {
+    if data.len() != Spare::DATA {
         return Stride {
             answer: Answer::Refused(Refusal::BadLength),
             state: s,
@@ -144,7 +145,7 @@ pub fn commit(s: State, array: &mut [u8], map: &mut [u16], hold: &[u8], id: u32)
     }
     let ps = s.places;
     let i = places::place_of(ps, id);
-    if i >= 8 {
+    if i >= State::PLACES {
         return Stride {
             answer: Answer::Refused(Refusal::NotBegun),
             state: s,

@@ -16,6 +16,7 @@ ghost use Rattle.zones.specs.Judging.{idAt, idsIn, wantedId, wantedBy, h
 use blocks::Blocks;
 use model::Geometry;
 use model::Place;
+use model::State;
 use model::Zones;
 use refill::Taken;
 
@@ -143,7 +144,7 @@ fn is_near(near: &[u32], id: u32) -> bool
 }
 
 /// Whether an identifier is of an active transaction or among the near ones.
-fn is_wanted(ids: [u32; 8], near: &[u32], id: u32) -> bool
+fn is_wanted(ids: [u32; State::PLACES], near: &[u32], id: u32) -> bool
     ensures { λ r. ⌜ r ≡ wantedId ids (now (near .entry)) id ⌝ }
 {
     if id == 0 {
@@ -156,7 +157,7 @@ fn is_wanted(ids: [u32; 8], near: &[u32], id: u32) -> bool
 }
 
 /// Whether page k is whole and wanted.
-fn page_wanted(array: &[u8], ids: [u32; 8], near: &[u32], k: usize) -> bool
+fn page_wanted(array: &[u8], ids: [u32; State::PLACES], near: &[u32], k: usize) -> bool
     requires { ⌜ k * 528 + 528 ≤ length (now array) ⌝ }
     ensures { λ r. ⌜ r ≡ any (wantedBy ids (now (near .entry))) (entryAt (now (array .entry)) k) ⌝ }
 {
@@ -168,7 +169,13 @@ fn page_wanted(array: &[u8], ids: [u32; 8], near: &[u32], k: usize) -> bool
 }
 
 /// Whether a whole page of block b is wanted.
-fn holds_wanted(array: &[u8], pages: usize, ids: [u32; 8], near: &[u32], b: usize) -> bool
+fn holds_wanted(
+    array: &[u8],
+    pages: usize,
+    ids: [u32; State::PLACES],
+    near: &[u32],
+    b: usize,
+) -> bool
     requires { ⌜ b * pages * 528 + pages * 528 ≤ length (now array) ⌝ }
     ensures { λ r. ⌜ r ≡ holdsBy (now (array .entry)) pages ids (now (near .entry)) b ⌝ }
 {
@@ -184,7 +191,14 @@ fn holds_wanted(array: &[u8], pages: usize, ids: [u32; 8], near: &[u32], b: usiz
 }
 
 /// A list with those of some blocks behind it that have a whole page which is wanted.
-fn judge(out: Blocks, array: &[u8], pages: usize, ids: [u32; 8], near: &[u32], bs: &[u8]) -> Blocks
+fn judge(
+    out: Blocks,
+    array: &[u8],
+    pages: usize,
+    ids: [u32; State::PLACES],
+    near: &[u32],
+    bs: &[u8],
+) -> Blocks
     requires { ⌜ Room (now array) pages (now bs) out ⌝ }
     ensures { λ r. ⌜ r ≡ blocksOf (listOf out ++ those (holdsBy (now (array .entry)) pages ids (now (near .entry))) (now (bs .entry))) ⌝ }
 {
@@ -253,7 +267,7 @@ fn leaving(array: &[u8], pages: usize, bs: &[u8]) -> Blocks
 fn judged(
     array: &[u8],
     pages: usize,
-    ids: [u32; 8],
+    ids: [u32; State::PLACES],
     z: Zones,
     stay: Blocks,
     leave: Blocks,
@@ -274,7 +288,7 @@ fn judged(
 }
 
 /// The zones that a checkpoint leaves.
-pub fn slide(g: Geometry, array: &[u8], places: [Place; 8], z: Zones) -> Zones
+pub fn slide(g: Geometry, array: &[u8], places: [Place; State::PLACES], z: Zones) -> Zones
     requires { ⌜ Ready g (now array) z ⌝ }
     ensures { λ r. ⌜ r ≡ slide g (now (array .entry)) places z ⌝ }
 {
