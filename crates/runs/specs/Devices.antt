@@ -28,8 +28,8 @@ use Rattle.model.specs.declared.State.{State}
 use Rattle.model.specs.declared.Zones.{Zones}
 use Rattle.model.specs.declared.Work.{Work}
 use Rattle.model.specs.declared.Work.the-variants.{Idle, Format, Checkpoint, Reclaim}
 use Rattle.examples.specs.Orders.{begin-done, write-done, lone-done, commit-done, abort-done, checkpoint-done, front-suffices, reclaim-strides, reclaim-done, reclaim-frees}
-use Rattle.examples.specs.Paged.{flat, Sized, length-flat, page-flat, part-flat, splice-flat, put-flat, usedOn, cleanOn, nextOn, scanOn, newestOn, numberOn, used-on, clean-on, next-on, scan-on, newest-page, number-on, slideOn, slide-on}
+use Rattle.runs.specs.Paged.{flat, Sized, length-flat, page-flat, part-flat, splice-flat, put-flat, usedOn, cleanOn, nextOn, scanOn, newestOn, numberOn, used-on, clean-on, next-on, scan-on, newest-page, number-on, slideOn, slide-on}
 
 -- ---- a device: the pages of its array, each of 528 bytes, map, hold and state
 pub record Device : Type 0 where

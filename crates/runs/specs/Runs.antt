@@ -24,11 +24,11 @@ use Rattle.model.specs.declared.Place.{Place}
 use Rattle.model.specs.declared.State.{State}
 use Rattle.model.specs.declared.Zones.{Zones}
 use Rattle.model.specs.declared.Work.the-variants.{Idle, Format, Checkpoint, Reclaim}
 use Rattle.examples.specs.Unfolded.{go, told}
 use Rattle.examples.specs.Rules.{small}
 use Rattle.examples.specs.Orders.{begin-6 as begin-6-law, begin-7 as begin-7-law, begin-9 as begin-9-law, begin-17, write-5, write-8, write-11, read-14, read-0, reclaim-strides, reclaim-none, recover-1, format-1}
-use Rattle.examples.specs.Paged.{flat, Sized, sized-take, sized-append, sized-replicate, usedOn, cleanOn, nextOn, entryOn, wholeOn, scanOn, isOn, mapsOn, completeOn, newerOn, newestOn, fullOn, slideOn}
-use Rattle.examples.specs.Devices.{Device, world, device, lentOn, frameOn, workOn, format-erases, format-maps, format-ends, format-ready, format-first, format-more, format-finished, refused-stays, passes, busy, reads-part, lent-on, live-on, begins, begin-op, lone-op, lone-writes, first-write, next-write, commit-op, commits, aborts, checkpoint-begins, checkpoint-ends, reclaim-copies, reclaim-erases, reclaim-op, reclaim-shape, loadOn, recovers, idle-told, idle-left, page-told, page-left, block-told, block-left, answered, cut-short, recovered, turned-down, joined}
+use Rattle.runs.specs.Paged.{flat, Sized, sized-take, sized-append, sized-replicate, usedOn, cleanOn, nextOn, entryOn, wholeOn, scanOn, isOn, mapsOn, completeOn, newerOn, newestOn, fullOn, slideOn}
+use Rattle.runs.specs.Devices.{Device, world, device, lentOn, frameOn, workOn, format-erases, format-maps, format-ends, format-ready, format-first, format-more, format-finished, refused-stays, passes, busy, reads-part, lent-on, live-on, begins, begin-op, lone-op, lone-writes, first-write, next-write, commit-op, commits, aborts, checkpoint-begins, checkpoint-ends, reclaim-copies, reclaim-erases, reclaim-op, reclaim-shape, loadOn, recovers, idle-told, idle-left, page-told, page-left, block-told, block-left, answered, cut-short, recovered, turned-down, joined}
 
 -- ---- pages
 abbrev pub blank : List ℕ

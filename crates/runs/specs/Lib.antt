@@ -1,0 +1,3 @@
+pub mod Paged
+pub mod Devices
+pub mod Runs
