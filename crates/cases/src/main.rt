@@ -4,6 +4,7 @@ ghost use Prim.Native.Nat.{_<_};
 ghost use lib.ListN.{length};
 use device::Device;
 use model::Geometry;
+use model::Spare;
 use model::State;
 
 /// The first byte of block 1 where a block has 8 pages.
@@ -40,7 +41,7 @@ fn formatted(array: &mut [u8], map: &mut [u16], hold: &[u8], g: Geometry) -> Dev
 /// Opens a change and writes pages to it until a write is not done; a line with the pages that went and the answer to the next.
 fn written(device: Device, array: &mut [u8], map: &[u16], hold: &mut [u8]) {
     io::write_all(1, b"pages written, answer to the next:");
-    let data = [0u8; 512];
+    let data = [0u8; Spare::DATA];
     let r = device.begin(array, map, hold, 1);
     let mut d = r.device;
     let mut pages: u8 = 0;
@@ -108,7 +109,7 @@ fn case_l() {
     };
     let mut array = [0u8; 135168];
     let mut map = [0u16; 16];
-    let mut hold = [0u8; 4096];
+    let mut hold = [0u8; State::HOLD];
     let d = formatted(&mut array, &mut map, &hold, g);
     written(d, &mut array, &map, &mut hold);
 }
@@ -123,7 +124,7 @@ fn case_m() {
     };
     let mut array = [0u8; 33792];
     let mut map = [0u16; 16];
-    let hold = [0u8; 4096];
+    let hold = [0u8; State::HOLD];
     let d = formatted(&mut array, &mut map, &hold, g);
     array[BLOCK_1] = 0;
     strides(d, &mut array, &map, &hold);

@@ -16,6 +16,12 @@ use model::Refusal;
 use model::State;
 use model::Work;
 
+/// How many front blocks there are.
+const FRONT: u8 = Geometry::FRONT_BLOCKS as u8;
+
+/// Pages that a place has room for.
+const PAGES: u8 = Place::PAGES as u8;
+
 /// Whether the first n logical page numbers are in range.
 fn lpns_ok(lpns: [u16; Place::PAGES], n: usize, logical: u16) -> bool
     requires { ⌜ n ≤ 64 ⌝ }
@@ -36,7 +42,7 @@ fn ppns_ok(g: Geometry, ppns: [u16; Place::PAGES], n: usize) -> bool
     requires { ⌜ (geometryOk g ≡ true) × (n ≤ 64) ⌝ }
     ensures { λ r. ⌜ r ≡ all (dataPage g) (take n ppns) ⌝ }
 {
-    let lo = 2 * g.pages;
+    let lo = Geometry::FRONT_BLOCKS * g.pages;
     let hi = g.blocks * g.pages;
     let mut i: usize = 0;
     while i < n {
@@ -56,7 +62,7 @@ fn place_ok(g: Geometry, p: Place) -> bool
     requires { ⌜ geometryOk g ≡ true ⌝ }
     ensures { λ r. ⌜ r ≡ placeOk g p ⌝ }
 {
-    if p.count > 64 {
+    if p.count > PAGES {
         return false;
     }
     if p.id == State::NO_NUMBER {
@@ -197,7 +203,7 @@ pub fn frame_ok(s: State, array: &[u8], map: &[u16], hold: &[u8]) -> bool
     if !places_ok(g, ps) {
         return false;
     }
-    if s.front >= 2 {
+    if s.front >= FRONT {
         return false;
     }
     let w = s.work;

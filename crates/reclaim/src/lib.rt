@@ -17,11 +17,15 @@ ghost use Rattle.strides.specs.Strode.{Strode, Fit};
 ghost use Rattle.reclaim.specs.Copies.{copiesNumber, Counts, InTable, withListed, Pickable, Copying};
 use checkpoint::Found;
 use model::Answer;
+use model::Geometry;
 use model::Refusal;
 use model::Spare;
 use model::State;
 use model::Work;
 use strides::Stride;
+
+/// The first data block.
+const FIRST: usize = Geometry::FRONT_BLOCKS as usize;
 
 /// What stands for a listed block among the counts: no block has as many mapped pages.
 const LISTED: u16 = 0xFFFF;
@@ -110,7 +114,7 @@ pub fn picked(s: State, map: &[u16]) -> Found
     let counts = with_listed(mapped(map, s.geometry.pages), &list[..n]);
     let mut least = LISTED;
     let mut best = Found::Nothing;
-    let mut b: usize = 2;
+    let mut b: usize = FIRST;
     while b < last {
         if counts[b] >= least {
             b += 1;
