@@ -1,4 +1,5 @@
 pub mod Unfolded
 pub mod Orders
 pub mod Rules
+pub mod Told
 pub mod Bench
