@@ -108,7 +108,7 @@ extern "C" {
 
 /* Limits. */
 #define BOKUHIRA_PLACES 8        /* open changes */
-#define BOKUHIRA_CHANGE_PAGES 64 /* pages of a change */
+#define BOKUHIRA_CHANGE_PAGES 41 /* pages up to which a change may be written */
 #define BOKUHIRA_BLOCKS_MIN 8
 #define BOKUHIRA_BLOCKS_MAX 128
 #define BOKUHIRA_PAGES_MIN 8 /* pages of a block */
@@ -146,7 +146,7 @@ extern "C" {
 #define BOKUHIRA_IDENTIFIER_LIVE 7 /* a closed change's pages are in scan order until a checkpoint has made their blocks checkpointed */
 #define BOKUHIRA_NOT_BEGUN 8
 #define BOKUHIRA_PLACES_FULL 9
-#define BOKUHIRA_TOO_LONG 10
+#define BOKUHIRA_TOO_LONG 10 /* BOKUHIRA_CHANGE_PAGES pages or more are written: no write goes on with it, a commit or an abort does */
 #define BOKUHIRA_BAD_LENGTH 11
 #define BOKUHIRA_ZONE_SHORT 12     /* a page must be programmed, and no more clean pages are available than a block has pages */
 #define BOKUHIRA_VERSIONS_SPENT 13 /* a number above 0xFFFFFFFE would be needed */
@@ -197,7 +197,7 @@ static inline const char *bokuhira_text(uint8_t answer)
     case BOKUHIRA_IDENTIFIER_LIVE: return "the identifier is of an open change or stands on a page in scan order; take another";
     case BOKUHIRA_NOT_BEGUN: return "no open change has this identifier";
     case BOKUHIRA_PLACES_FULL: return "eight changes are open; commit or abort one";
-    case BOKUHIRA_TOO_LONG: return "the change has as many pages as a change may have";
+    case BOKUHIRA_TOO_LONG: return "the change has 41 pages or more; commit or abort it";
     case BOKUHIRA_BAD_LENGTH: return "the data are not 512 bytes";
     case BOKUHIRA_ZONE_SHORT: return "too few clean pages are available; checkpoint, and if that is not enough reclaim and checkpoint again";
     case BOKUHIRA_VERSIONS_SPENT: return "no version or checkpoint number is left";

@@ -12,7 +12,7 @@ const REFUSALS: [(&str, &str); 17] = [
     ("identifier live", "the identifier is of an open change or stands on a page in scan order; take another"),
     ("not begun", "no open change has this identifier"),
     ("places full", "eight changes are open; commit or abort one"),
-    ("too long", "the change has as many pages as a change may have"),
+    ("too long", "the change has 41 pages or more; commit or abort it"),
     ("bad length", "the data are not 512 bytes"),
     ("zone short", "too few clean pages are available; checkpoint, and if that is not enough reclaim and checkpoint again"),
     ("versions spent", "no version or checkpoint number is left"),

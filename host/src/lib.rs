@@ -40,6 +40,8 @@ pub const SPARE: usize = 16;
 pub const HOLD: usize = 4096;
 /// The bytes of a state.
 pub const STATE: usize = 2366;
+/// The pages up to which a change may be written. One of an earlier release may have up to 64: it can still be committed or aborted.
+pub const CHANGE_PAGES: usize = 41;
 /// The map entry of a logical page that was never written.
 pub const UNMAPPED: u16 = 0xFFFF;
 
@@ -119,7 +121,7 @@ impl Store {
         Answer::of(raw::begin(self, id))
     }
 
-    /// Adds a page to an open change.
+    /// Adds a page to an open change of fewer than `CHANGE_PAGES`.
     pub fn write(&mut self, id: u32, lpn: u16, data: &[u8]) -> Answer {
         Answer::of(raw::write(self, id, lpn, data))
     }

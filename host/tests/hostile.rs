@@ -173,7 +173,12 @@ impl Maker {
     }
 
     fn place(&mut self, g: Geometry, id: u32) -> Place {
-        let count = if self.rng.once_in(10) { 62 + self.below(3) } else { self.below(6) };
+        // at the limit of write, 41, at what a place has room for, 64, or small
+        let count = match self.below(20) {
+            0 => 39 + self.below(4),
+            1 => 62 + self.below(3),
+            _ => self.below(6),
+        };
         let (from, to) = (2 * g.pages as usize, g.blocks as usize * g.pages as usize);
         let lpns = (0..count).map(|_| self.below(g.logical as usize) as u16).collect();
         let ppns = (0..count.saturating_sub(1)).map(|_| (from + self.below(to - from)) as u16).collect();
@@ -405,10 +410,8 @@ impl Maker {
             1 => *self.rng.pick(&[0, 2 * g.pages - 1, 2 * g.pages, last - 1, last, UNMAPPED - 1]),
             2 => UNMAPPED,
             3 => self.rng.next() as u16,
-            _ => {
-                world.map = self.map(g);
-                UNMAPPED
-            }
+            // a map of that geometry, which may be another than the world's by now
+            _ => return world.map = self.map(g),
         };
     }
 

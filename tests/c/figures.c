@@ -44,7 +44,7 @@ static unsigned below(unsigned n)
 /* n settings on logical pages from anywhere. */
 static const struct setting *some(int n)
 {
-    static struct setting settings[BOKUHIRA_CHANGE_PAGES];
+    static struct setting settings[BOKUHIRA_CHANGE_PAGES + 1];
     int i;
 
     for (i = 0; i < n; i++) {
@@ -66,13 +66,13 @@ static uint8_t in_one_go(const struct setting *settings, int n)
     return answer == BOKUHIRA_DONE ? bokuhira_commit(LENT, identifier) : answer;
 }
 
-/* The longest change that goes, by one way to write it. */
+/* The longest change that goes, by one way to write it; one page above the limit is tried too. */
 static int longest(uint8_t (*way)(const struct setting *, int))
 {
     int n = 0;
 
     keep();
-    while (n < BOKUHIRA_CHANGE_PAGES && way(some(n + 1), n + 1) == BOKUHIRA_DONE) {
+    while (n <= BOKUHIRA_CHANGE_PAGES && way(some(n + 1), n + 1) == BOKUHIRA_DONE) {
         put_back();
         n++;
     }

@@ -156,6 +156,19 @@ static void format(void)
     CHECK(answer == BOKUHIRA_DONE);
 }
 
+/* A formatted device with an open change of n pages, all of them logical page 0, made by hand; its last page is held. */
+static void opened(uint32_t id, int n)
+{
+    int i;
+
+    format();
+    CHECK(begin(id) == BOKUHIRA_DONE);
+    d.state[BOKUHIRA_AT_PLACES + BOKUHIRA_PLACE_COUNT] = (uint8_t)n;
+    for (i = 0; i < n - 1; i++)
+        d.state[BOKUHIRA_AT_PLACES + BOKUHIRA_PLACE_PAGES + 2 * i] = 2 * PAGES;
+    memset(d.hold, 0x47, BOKUHIRA_DATA);
+}
+
 /* Strides until done; how many. */
 static int checkpoint(void)
 {
@@ -313,6 +326,23 @@ static void *session(void *nothing)
     CHECK(lone(3, 0x33) == BOKUHIRA_DONE);
     old = d;
     CHECK(bokuhira_reclaim(LENT) == BOKUHIRA_MORE);
+
+    /* the longest change: from 41 pages on no write goes; a place may have up to 64, which a commit marks and an abort forgets */
+    for (n = BOKUHIRA_CHANGE_PAGES - 1; n <= 65; n++) {
+        opened(13, n);
+        if (n == BOKUHIRA_CHANGE_PAGES - 1)
+            CHECK(put(13, 4, 0x46) == BOKUHIRA_DONE && d.state[place + BOKUHIRA_PLACE_COUNT] == BOKUHIRA_CHANGE_PAGES);
+        else
+            REFUSED(n > 64 ? BOKUHIRA_BAD_FRAME : BOKUHIRA_TOO_LONG, put(13, 4, 0x46));
+        opened(13, n);
+        CHECK(bokuhira_abort(LENT, 13) == (n > 64 ? BOKUHIRA_BAD_FRAME : BOKUHIRA_DONE));
+        opened(13, n);
+        CHECK(commit(13) == (n > 64 ? BOKUHIRA_BAD_FRAME : BOKUHIRA_DONE));
+        if (n <= 64) {
+            CHECK(reads(0, 0x47));
+            CHECK(d.array[d.at + BOKUHIRA_DATA + 2] == n && d.array[d.at + BOKUHIRA_DATA + 3] == 0);
+        }
+    }
 
     /* versions spent: a checkpoint or a reclaim meets it before a save does */
     d = old;

@@ -99,7 +99,7 @@ fn strides(device: Device, array: &mut [u8], map: &[u16], hold: &[u8])
     }
 }
 
-/// Case l: the 64th page goes, the 65th answers 10.
+/// Case l: the 41st page goes, the 42nd answers 10.
 fn case_l() {
     io::write_all(1, b"case l\n");
     let g = Geometry {

@@ -1,12 +1,12 @@
 -- "Order: 1 first, then 17", then each command's own refusals, over all worlds: each law says which refusal is given whatever comes later in
 -- the order. Beside them: what buffers that fit make of a format, and what a commit and a checkpoint's strides leave alone.
-use Prim.Native.Nat.{ℕ, _+_, _-_, _*_, _<_}
+use Prim.Native.Nat.{ℕ, _+_, _-_, _*_, _≤_, _<_}
 use mathlib.Core.Path.{_≡_, refl, ap}
 use mathlib.Core.Bool.{Bool, true, false, false≢true, not, cond, _&&_, _||_}
 use mathlib.Core.List.{List}
 use lib.ListN.{length, getD, replicate, length-replicate}
 use lib.Dec.{leb, ltb, eqb}
-use borrow.Author.Tests.{leb-true, lt-ltb, eq-eqb}
+use borrow.Author.Tests.{leb-true, le-leb, lt-leb, lt-ltb, eq-eqb}
 use native.Mathlib.Omega.{arith}
 use Rattle.model.specs.Lists.{find}
 use Rattle.model.specs.Geometry.{unmapped, geometryOk, lengthsOk, mapPages}
@@ -15,7 +15,7 @@ use Rattle.model.specs.Checkpoint.{nothing, at, newest, loadOk}
 use Rattle.model.specs.Recovery.{pagesGood}
 use Rattle.model.specs.World.{World, none, Plan, refuse}
 use Rattle.model.specs.Frame.{noPlace, badId, lentOk, frameOk, isIdle, gate, freshState}
-use Rattle.model.specs.Transactions.{withPlace, placeOf, zoneShort, cleanPages, spent, begun, liveId, writePlan, lonePlan, markPlan, forgetPlan, planBegin, planWrite, planLone, planCommit, planAbort, readAnswer}
+use Rattle.model.specs.Transactions.{withPlace, placeOf, zoneShort, cleanPages, spent, begun, liveId, longestChange, writePlan, lonePlan, markPlan, forgetPlan, planBegin, planWrite, planLone, planCommit, planAbort, readAnswer}
 use Rattle.model.specs.Strides.{isCheckpoint, withWork, withZones, withNumber, mapStride, zoneStride, pageStride, otherStride, firstStride, checkpointStride, planCheckpoint, mappedIn, picked, lowestFrom, isReclaim, copyStride, freeStride, reclaimStride, planReclaim, stridesDone, formatWorkOk, formatMore, formatStride, planFormat}
 use Rattle.model.specs.Recover.{entriesAt, zonesAt, scannedAt, recoverFrom, planRecover}
 use Rattle.model.specs.Commands.{format, recover, begin, write, lone, commit, abort, read, checkpoint, reclaim, plan}
@@ -84,23 +84,23 @@ module _ (w : World) (pass : gate false w ≡ 0) where
       abbrev place : Place
       place = getD (w .state .places) (placeOf (w .state .places) id) noPlace
 
-      -- 10 at 64 pages, whatever is clean
-      pub write-10 : place .count ≡ 64 → plan (write id lpn d) w ≡ refuse w 10
+      -- 10 from 41 pages on, whatever is clean
+      pub write-10 : 41 ≤ place .count → plan (write id lpn d) w ≡ refuse w 10
       unfolding plan planWrite
-      write-10 n = rw (pass, long, in-range, open-at, n) refl
+      write-10 n = rw (pass, long, in-range, open-at, le-leb longestChange (place .count) (omega arith)) refl
 
-      -- the 64th goes, and 12 is for a place with a held page alone
-      pub write-done : leb 64 (place .count) ≡ false → (not (eqb (place .count) 0) && zoneShort w) ≡ false → plan (write id lpn d) w ≡ writePlan (placeOf (w .state .places) id) place lpn d w
+      -- a page up to the 41st goes, and 12 is for a place with a held page alone
+      pub write-done : place .count < 41 → (not (eqb (place .count) 0) && zoneShort w) ≡ false → plan (write id lpn d) w ≡ writePlan (placeOf (w .state .places) id) place lpn d w
       unfolding plan planWrite
-      write-done n z = rw (pass, long, in-range, open-at, n, z) refl
+      write-done n z = rw (pass, long, in-range, open-at, lt-leb longestChange (place .count) (omega arith), z) refl
 
-      pub write-12 : leb 64 (place .count) ≡ false → eqb (place .count) 0 ≡ false → zoneShort w ≡ true → plan (write id lpn d) w ≡ refuse w 12
+      pub write-12 : place .count < 41 → eqb (place .count) 0 ≡ false → zoneShort w ≡ true → plan (write id lpn d) w ≡ refuse w 12
       unfolding plan planWrite
-      write-12 n c z = rw (pass, long, in-range, open-at, n, c, z) refl
+      write-12 n c z = rw (pass, long, in-range, open-at, lt-leb longestChange (place .count) (omega arith), c, z) refl
 
-      pub write-64th : place .count ≡ 63 → zoneShort w ≡ false → plan (write id lpn d) w .answer ≡ 0
+      pub write-41st : place .count ≡ 40 → zoneShort w ≡ false → plan (write id lpn d) w .answer ≡ 0
       unfolding writePlan
-      write-64th n z = ap (λ (p : Plan). p .answer) (write-done (rw n refl) (rw (n, z) refl))
+      write-41st n z = ap (λ (p : Plan). p .answer) (write-done (omega (arith, n)) (rw (n, z) refl))
 
       pub write-first : place .count ≡ 0 → plan (write id lpn d) w .answer ≡ 0
       unfolding plan planWrite writePlan

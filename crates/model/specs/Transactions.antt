@@ -102,9 +102,9 @@ planBegin id w =
     (record { answer = 0; op = none; map = w .map; hold = w .hold; state = withPlace s free (begun id) }))))
 
 -- ---- write: 11, 5, 8, 10, 12
--- the longest change: "64 pages already written" is too long
+-- the longest change: "the 41st page goes, the 42nd answers 10"; a place has room for 64
 abbrev pub longestChange : ℕ
-longestChange = 64
+longestChange = 41
 
 -- the place with one more page, held, the one held before being programmed on page k
 unfoldable pub written : Place → ℕ → ℕ → Place

@@ -194,8 +194,8 @@ impl State {
     /// The hold has room for one page of data for each place.
     pub const HOLD: usize = 4096;
 
-    /// The pages that a change may write.
-    pub const LONGEST_CHANGE: u8 = 64;
+    /// The pages up to which a change may be written. A place has room for more: a change that has more can still be committed.
+    pub const LONGEST_CHANGE: u8 = 41;
 
     /// The highest version and checkpoint number.
     pub const LAST_NUMBER: u32 = 0xFFFF_FFFE;

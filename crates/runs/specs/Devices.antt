@@ -6,6 +6,8 @@ use mathlib.Core.Bool.{Bool, true, false, false≢true, not, cond, _&&_, _||_}
 use mathlib.Core.List.{List, [], _∷_, _++_}
 use lib.ListN.{length, take, getD, set, replicate}
 use lib.Dec.{leb, ltb, eqb}
+use native.Mathlib.Omega.{arith}
+use borrow.Author.Tests.{leb-false}
 use Rattle.model.specs.Lists.{find, part, splice}
 use Rattle.model.specs.Bytes.{allFF, le32, words, ands, ors, minus, zerosOf}
 use Rattle.model.specs.Page.{dataAt, blockAt, putPage, putBlock, blankAt}
@@ -16,7 +18,7 @@ use Rattle.model.specs.Checkpoint.{nothing, at, mapPage, zonePage, loadMap, zon
 use Rattle.model.specs.Recovery.{pagesGood, top, redone}
 use Rattle.model.specs.World.{World, Op, none, program, erase, Plan, refuse, applyOp, dueBits, turnedBits, turn, cutOp, programs}
 use Rattle.model.specs.Frame.{noPlace, freePlace, badId, placesOk, formatStrideOk, checkpointStrideOk, workOk, lentOk, frameOk, isIdle, gate, freshState}
-use Rattle.model.specs.Transactions.{withPlace, withVersion, dataBytes, heldAt, holdWith, heldPage, placeOf, begun, liveId, written, heldOp, writePlan, lonePlan, entered, markPlan, forgetPlan, cleanPages, nextPage, zoneShort, spent, readPart}
+use Rattle.model.specs.Transactions.{withPlace, withVersion, dataBytes, heldAt, holdWith, heldPage, placeOf, begun, liveId, longestChange, written, heldOp, writePlan, lonePlan, entered, markPlan, forgetPlan, cleanPages, nextPage, zoneShort, spent, readPart}
 use Rattle.model.specs.Strides.{withWork, withZones, withNumber, isCheckpoint, isReclaim, mapStride, zoneStride, pageStride, checkpointStride, mappedIn, picked, lowestFrom, copyStride, freeStride, reclaimStride, stridesDone, formatWorkOk, formatMore, formatLast, formatStride, planFormat}
 use Rattle.model.specs.Recover.{recoveredMap, recoveredState, recoverPlan, recoverFrom, planRecover}
 use Rattle.model.specs.Commands.{Call, format, recover, begin, write, lone, commit, abort, read, checkpoint, reclaim, plan, carried, exec, Outcome}
@@ -211,17 +213,17 @@ module _ (x : Device) where
             → exec (write id lpn d) (world x) ≡ record { answer = 0; world = device qs m (holdWith h i d) (withPlace s i (written place k lpn)) }
         unfolding exec carried writePlan heldOp withPlace applyOp after
         first-write c =
-            ap (λ (p : Plan). carried p (world x)) (write-done (world x) pass id lpn d long in-range open-at (rw c refl) (rw c refl))
+            ap (λ (p : Plan). carried p (world x)) (write-done (world x) pass id lpn d long in-range open-at (omega (arith, c)) (rw c refl))
             ∙ (ap (λ (y : ℕ). after (cond (eqb y 0) none (program (nextPage (world x)) (held 0 0))) (nextPage (world x))) c
             ∙ ap (after none) (next-page k n))
 
         -- a later one programs the held page on page k
-        pub next-write : (q : List ℕ) → eqb (place .count) 0 ≡ false → leb 64 (place .count) ≡ false → leb clean (s .geometry .pages) ≡ false
+        pub next-write : (q : List ℕ) → eqb (place .count) 0 ≡ false → leb longestChange (place .count) ≡ false → leb clean (s .geometry .pages) ≡ false
             → ands (getD qs k []) (held 0 0) ≡ q
             → exec (write id lpn d) (world x) ≡ record { answer = 0; world = device (splice qs k 1 (q ∷ [])) m (holdWith h i d) (withPlace s i (written place k lpn)) }
         unfolding exec carried writePlan heldOp withPlace after
         next-write q c t z e =
-            ap (λ (p : Plan). carried p (world x)) (write-done (world x) pass id lpn d long in-range open-at t (rw (c, zone-on z) refl))
+            ap (λ (p : Plan). carried p (world x)) (write-done (world x) pass id lpn d long in-range open-at (leb-false longestChange (place .count) t) (rw (c, zone-on z) refl))
             ∙ (ap (λ (y : Bool). after (cond y none (program (nextPage (world x)) (held 0 0))) (nextPage (world x))) c
             ∙ (ap (λ (j : ℕ). after (program j (held 0 0)) j) (next-page k n)
             ∙ ap (λ (xs : List ℕ). record { answer = 0; world = record { array = xs; map = m; hold = holdWith h i d; state = withPlace s i (written place k lpn) } }) (programs-on (s .geometry .pages) k (held 0 0) q e)))

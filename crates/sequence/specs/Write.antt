@@ -69,7 +69,7 @@ write-view id lpn d w =
       long = eqb-true (length d) 512 (not-false (eqb (length d) 512) a);
       low = leb-false (w .state .geometry .logical) lpn c;
       begun = e;
-      room = leb-false 64 (p .count) z;
+      room = (let h = leb-false longestChange (p .count) z in omega arith);
       clean = λ n. let t : not (eqb (p .count) 0) ≡ true = ap not (ne-eqb (p .count) 0 n) in rw t at y;
       is = refl;
     })))))))

@@ -135,7 +135,8 @@ pub fn run(layer: Layer, g: Geometry, turns: u32, seed: u64, clock: f64) -> (Tal
 pub fn listed(g: Geometry, blocks: usize) -> Store {
     let mut s = Store::formatted(g).expect("a geometry in range");
     let mut random = Random::new(g.blocks as u64);
-    let every = if g.pages > 8 { 16 } else { 4 };
+    // two in each block: few enough that no change gets too long
+    let every = g.pages as u64 / 2;
     // a change's first page is held, not programmed
     for id in 1..=8 {
         assert_eq!(s.begin(id), Answer::Done);

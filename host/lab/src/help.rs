@@ -29,7 +29,7 @@ const GROUPS: [(&str, &[Word]); 4] = [
                 "power is back: makes map and state from what stands on the flash; where it refuses, why ('help refusals')",
             ),
             word("begin", "begin ID", "opens a change"),
-            word("write", "write ID LPN DATA", "adds a page to an open change, as in: write 5 3 \"VLAN 20\" ('help data')"),
+            word("write", "write ID LPN DATA", "adds a page to an open change, which may have 41, as in: write 5 3 \"VLAN 20\" ('help data')"),
             word("lone", "lone LPN DATA", "writes a page by itself"),
             word("commit", "commit ID", "closes a change: its pages hold from now on"),
             word("abort", "abort ID", "forgets an open change"),

@@ -82,7 +82,7 @@ pub const TOPICS: [(&str, &str); 7] = [
          \x20 7 identifier live   active, or still on a whole page in scan order\n\
          \x20 8 not begun         no open change has that identifier\n\
          \x20 9 places full       eight changes are open\n\
-         \x2010 too long          64 pages are already written\n\
+         \x2010 too long          41 pages or more are already written; the change can be committed or aborted\n\
          \x2011 bad length        data not 512 bytes\n\
          \x2012 zone short        too few clean pages; checkpoint, and if that is not enough reclaim and checkpoint again\n\
          \x2013 versions spent    no number is left\n\

@@ -3,6 +3,9 @@ use crate::page::{is_erased, Page};
 use crate::PAGE;
 use std::ops::Range;
 
+/// The most pages of a block.
+pub const MOST_PAGES: usize = 64;
+
 /// Blocks, pages in each, and logical pages.
 #[derive(Clone, Copy, PartialEq, Eq)]
 pub struct Geometry {
@@ -18,7 +21,7 @@ impl Geometry {
 
     pub fn in_range(self) -> bool {
         (8..=128).contains(&self.blocks)
-            && (8..=64).contains(&self.pages)
+            && (8..=MOST_PAGES).contains(&self.pages)
             && (1..=1024).contains(&self.logical)
             && self.logical <= (self.blocks - 6) * self.pages
     }

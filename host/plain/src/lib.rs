@@ -26,8 +26,9 @@ pub const HOLD: usize = 4096;
 pub const STATE: usize = 2366;
 
 const PLACES: usize = 8;
-/// The most pages of a transaction.
-const LONGEST: usize = 64;
+/// The pages that a place has room for, and those up to which a transaction may be written.
+const PLACE_PAGES: usize = 64;
+const LONGEST: usize = 41;
 /// The map entry of a logical page that was never written.
 const UNMAPPED: u16 = 0xFFFF;
 /// The highest version and the highest checkpoint number; the one above is no identifier either.

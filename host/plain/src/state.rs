@@ -13,7 +13,7 @@
 //! | 278 | 8 × 261 | places: TxID (4), count (1), 64 logical and 64 physical page numbers (2 each) |
 use crate::flash::Geometry;
 use crate::zones::Zones;
-use crate::{ensure, Refusal, LONGEST, PLACES, STATE};
+use crate::{ensure, Refusal, PLACES, PLACE_PAGES, STATE};
 use std::ops::{Deref, DerefMut};
 
 type Bytes = [u8; STATE];
@@ -29,7 +29,7 @@ const FIRST: usize = 274;
 const KIND: usize = 275;
 const STRIDE: usize = 276;
 const PLACE: usize = 278;
-const PLACE_BYTES: usize = 5 + 4 * LONGEST;
+const PLACE_BYTES: usize = 5 + 4 * PLACE_PAGES;
 
 /// The work under way, with its stride number.
 #[derive(Clone, Copy, PartialEq, Eq)]
@@ -111,7 +111,7 @@ impl<'a> Place<'a> {
 
     /// The programmed pages, in order.
     pub fn ppns(self) -> impl Iterator<Item = u16> + 'a {
-        halves(&self.0[5 + 2 * LONGEST..][..2 * self.count().saturating_sub(1)])
+        halves(&self.0[5 + 2 * PLACE_PAGES..][..2 * self.count().saturating_sub(1)])
     }
 
     /// The logical page that is held, of a place with pages.
@@ -236,7 +236,7 @@ impl<B: DerefMut<Target = Bytes>> State<B> {
         self.0[at + 4] = count as u8 + 1;
         self.put(at + 5 + 2 * count, lpn.to_le_bytes());
         if let Some(ppn) = programmed {
-            self.put(at + 5 + 2 * LONGEST + 2 * (count - 1), (ppn as u16).to_le_bytes());
+            self.put(at + 5 + 2 * PLACE_PAGES + 2 * (count - 1), (ppn as u16).to_le_bytes());
         }
     }
 }

@@ -1,6 +1,7 @@
 -- `writing::write` meets its contract: a refusal after the other, then the page held. Assumes nothing.
 use mathlib.Core.Bool.{false}
 use lib.ListN.{getD}
+use native.Mathlib.Omega.{arith}
 use borrow.Author.Tests.{le-leb, lt-leb, eq-eqb, ne-eqb}
 use Rattle.model.specs.World.{World}
 use Rattle.model.specs.Frame.{noPlace}
@@ -127,7 +128,7 @@ write-in-requires c κs =
       bytes = c .before .before .before .before .before .before .before .before .before .before .before .before .before .if2 .left;
       page = c .before .before .before .before .before .before .before .before .before .before .before .if3 .left;
       place = c .before .before .before .before .before .before .before .before .if4 .left;
-      room = c .before .before .before .before .before .if5 .left;
+      room = (let h = c .before .before .before .before .before .if5 .left in omega arith);
       clean = held-clean (getD (a .s .places) (c .before .before .before .before .before .before .before .before .before .place-of .result) noPlace .count) (cleanPages w) (a .s .geometry .pages) (c .before .before .before .held-short .result) (c .before .before .before .held-short .ensures) (c .before .before .if6 .left);
     }
 
