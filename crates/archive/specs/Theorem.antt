@@ -9,12 +9,13 @@ use Rattle.model.specs.Answers.{refused}
 use Rattle.model.specs.World.{World}
 use Rattle.model.specs.Commands.{recover, exec}
 use Rattle.model.specs.Book.{Event, Book, never, blank, story}
-use Rattle.model.specs.Sequence.{Phase, live, dark, arrayOf}
+use Rattle.model.specs.Sequence.{Phase, live, dark, arrayOf, Formatted}
 use Rattle.model.specs.Demand3.{Reads, Recovers, LiveReads, Kept}
 use Rattle.model.specs.declared.Geometry.{Geometry}
 use Rattle.encoding.specs.StateBack.{Shaped, coded-back}
 use Rattle.bokuhira.specs.Calls.{Result, resultOf, startFrom, sized}
 use Rattle.sequence.specs.Theorem.{demand3, formatReads}
+use Rattle.sequence.specs.Former.{FormerRun, former-kept}
 use Rattle.archive.specs.Lent.{Lent, bokuhira, lentIn, after}
 use Rattle.archive.specs.LentRuns.{LentPhase, on, off, lentArray}
 use Rattle.archive.specs.Statement.{LentReadsAs, LentRight, LentRecovers, LentLive, LentKept, Demand3Bytes, FormatReadsBytes}
@@ -80,6 +81,12 @@ demand3-bytes g l es p f r =
     let w = formatted-is g l f in
     let j = run-is g (on l) es p r (live (w .0)) (w .1 .1) in
     lent-kept g es p (j .phase) (j .agrees) (demand3 g (w .0) es (j .phase) (w .1 .0) (j .run))
+
+-- and of every array that a sequence with changes of up to 64 pages left: the next bokuhira_recover, whatever it is handed
+pub former-bytes : (g : Geometry) (w : World) (es : List Event) (p : Phase) → Formatted g w → FormerRun g (live w) es p
+    → (map hold bs : List ℕ) → length map ≡ g .logical → length hold ≡ 4096 → length bs ≡ 2366
+    → LentRecovers g (story (blank g) es) (record { array = arrayOf p; map = map; hold = hold; bytes = bs })
+former-bytes g w es p f r map hold bs wide deep long = lent-recovers g (story (blank g) es) _ long (former-kept g w es p f r .recovers map hold (startFrom g bs) wide deep)
 
 -- between two strides of the format every page is never written
 pub formatReads-bytes : FormatReadsBytes

@@ -1,18 +1,18 @@
 -- Rows of the rules: a second table beside the starred one. A row is a sentence of document 01 (docs/PAPERS.md) that neither demand 3 nor a bench
 -- case tells from a wrong one: its name, what the definitions give for small inputs, and what document 01 says. One theorem says that every row
 -- holds. The orders of refusals stand in `Orders`, as laws over all worlds.
-use Prim.Native.Nat.{ℕ, _+_, _-_, _*_}
+use Prim.Native.Nat.{ℕ, zero, suc, _+_, _-_, _*_}
 use mathlib.Core.Path.{_≡_, refl, ap}
-use mathlib.Core.Bool.{Bool, true, false}
+use mathlib.Core.Bool.{Bool, true, false, cond}
 use mathlib.Core.List.{List, [], _∷_, _++_}
 use lib.ListN.{length, take, drop, set, replicate}
 use lib.Dec.{eqb}
-use Rattle.model.specs.Lists.{all, padTo}
+use Rattle.model.specs.Lists.{all, upFrom, padTo}
 use Rattle.model.specs.Page.{spareOf, pageBytes, spareBytes}
 use Rattle.model.specs.Geometry.{geometryOk}
 use Rattle.model.specs.Zones.{Entry, Taken, zonesOf, listedIn, zoneListsOk, freeIndex, pastBlock, refill, slide}
 use Rattle.model.specs.Checkpoint.{Found, nothing, at, mapSpare, zoneSpare, mapBytes, zoneData, completeAt, newest, zonesIn, loadOk}
-use Rattle.model.specs.Recovery.{entryGood, applied}
+use Rattle.model.specs.Recovery.{entryGood, pagesGood, applied, redone}
 use Rattle.model.specs.World.{World}
 use Rattle.model.specs.Frame.{freePlace, placeOk, placesOk, formatStrideOk, checkpointStrideOk, workOk, freshState}
 use Rattle.model.specs.Transactions.{dataBytes, heldAt, holdWith, entered}
@@ -91,6 +91,8 @@ pub data Rule : Type 0 where
   hold-by-place : Rule
   later-holds : Rule
   rising-versions : Rule
+  long-passes : Rule
+  long-entered : Rule
   blocks-range : Rule
   pages-range : Rule
   logical-range : Rule
@@ -190,6 +192,14 @@ entry lpn cnt id ver = record { ppn = 16; lpn = lpn; cnt = cnt; id = id; ver = v
 -- whether refusal 4 passes it, L being 16, after those seen
 abbrev pub good : List Entry → Entry → ℕ
 good seen e = flag (entryGood 16 seen e)
+
+-- the scan of a change of n pages, k of them from logical page i on: logical page i on page 16 + i, the last being the mark
+abbrev pub changeFrom : ℕ → ℕ → ℕ → List Entry
+changeFrom n i zero = []
+changeFrom n i (suc k) = record { ppn = 16 + i; lpn = i; cnt = cond (eqb k 0) n 0; id = 5; ver = cond (eqb k 0) 1 0; kind = 0; reserved = 0 } ∷ changeFrom n (suc i) k
+
+abbrev pub changeOf : ℕ → List Entry
+changeOf n = changeFrom n 0 n
 
 -- whether refusal 1 passes a checkpoint under way: front block, first page, pages programmed
 abbrev pub strides : ℕ → ℕ → ℕ → List ℕ → ℕ
@@ -412,6 +422,17 @@ changeRows =
     ∷ record { rule = rising-versions; gives = versionsOf (applied 0 (entry 3 1 0 2 ∷ entry 3 1 0 1 ∷ [])); says = 1 ∷ 2 ∷ [] }
     ∷ []
 
+-- ---- a committed change of 41 pages, or more, in a scan: document 02, "must still recover in full"
+abbrev pub longRows : List Row
+longRows =
+    record {
+      rule = long-passes;
+      gives = flag (pagesGood 80 (changeOf 41)) ∷ flag (pagesGood 80 (changeOf 42)) ∷ flag (pagesGood 80 (changeOf 64)) ∷ flag (pagesGood 80 (changeOf 65)) ∷ [];
+      says = 1 ∷ 1 ∷ 1 ∷ 1 ∷ [];
+    }
+    ∷ record { rule = long-entered; gives = redone 0 (changeOf 64) (replicate 64 65535); says = upFrom 16 64 }
+    ∷ []
+
 -- ---- geometry: the bounds, and a format of buffers that fit
 abbrev pub geometryRows : List Row
 geometryRows =
@@ -479,6 +500,10 @@ change-rows : Every changeRows
 unfolding go
 change-rows = (refl, (refl, (refl, tt)))
 
+long-rows : Every longRows
+unfolding go
+long-rows = (refl, (refl, tt))
+
 geometry-rows : Every geometryRows
 unfolding go
 geometry-rows = (refl, (refl, (refl, (refl, tt))))
@@ -492,7 +517,7 @@ format-rows = (ap only (format-answers (shape 7 8 8)), (ap only (format-answers 
 
 abbrev pub table : List (List Row)
 table =
-    freeRows ∷ slideRows ∷ reclaimRows ∷ checkpointRows ∷ newestRows ∷ loadRows ∷ pageRows ∷ placeRows ∷ strideRows ∷ changeRows ∷ geometryRows ∷ formatRows ∷ []
+    freeRows ∷ slideRows ∷ reclaimRows ∷ checkpointRows ∷ newestRows ∷ loadRows ∷ pageRows ∷ placeRows ∷ strideRows ∷ changeRows ∷ longRows ∷ geometryRows ∷ formatRows ∷ []
 
 pub rules : EveryGroup table
-rules = (free-rows, (slide-rows, (reclaim-rows, (checkpoint-rows, (newest-rows, (load-rows, (page-rows, (place-rows, (stride-rows, (change-rows, (geometry-rows, (format-rows, tt))))))))))))
+rules = (free-rows, (slide-rows, (reclaim-rows, (checkpoint-rows, (newest-rows, (load-rows, (page-rows, (place-rows, (stride-rows, (change-rows, (long-rows, (geometry-rows, (format-rows, tt)))))))))))))

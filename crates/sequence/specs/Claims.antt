@@ -13,21 +13,21 @@ use Rattle.model.specs.Answers.{refused}
 use Rattle.model.specs.World.{World, Op, program}
 use Rattle.model.specs.Frame.{lentOk, isIdle}
 use Rattle.model.specs.Transactions.{readAnswer}
-use Rattle.model.specs.Strides.{isCheckpoint, isReclaim, picked, formatWorkOk, planFormat}
+use Rattle.model.specs.Strides.{isCheckpoint, isReclaim, picked, planFormat}
 use Rattle.model.specs.Commands.{Call, format, recover, begin, write, lone, commit, abort, read, checkpoint, reclaim, plan, carried, exec}
 use Rattle.model.specs.Book.{Book, Event, called, cutIn, cutBetween, blank, tell, story, pageOf, contentAnswer}
 use Rattle.model.specs.Sequence.{fits, Phase, live, dark, Allowed, isRecovery, cutEvent, cutArray, Step, call, cut, between, back, failed, lost, again, Run, stop, next, Formatted}
 use Rattle.model.specs.declared.Geometry.{Geometry}
 use Rattle.model.specs.declared.Work.{Work}
 use Rattle.arrays.specs.Tests.{and-both}
-use Rattle.arrays.specs.Ranges.{InGeometry, geometry-in}
+use Rattle.arrays.specs.Ranges.{geometry-in}
 use Rattle.arrays.specs.Bytelist.{Bytes, true-bytes}
 use Rattle.scanlog.specs.Sublist.{Sublist}
 use Rattle.sequence.specs.Live.{live-reads, scanned}
-use Rattle.sequence.specs.Start.{formatted-live, formatted-idle, some-formatted}
+use Rattle.sequence.specs.Start.{formatted-idle, some-formatted}
 use Rattle.sequence.specs.ScanOrder.{added, ScannedLast, InOrder, call-orders}
 use Rattle.sequence.specs.UnderWay.{another, GoesOn, More, busy-same, checkpoint-not-refused, reclaim-not-refused, goes-call, goes-recovered, copy-picks-same, checkpoint-more, reclaim-more}
-use Rattle.sequence.specs.Theorem.{LiveAt, Holds, step-holds, run-holds}
+use Rattle.sequence.specs.Theorem.{LiveAt, Holds, step-holds, run-holds, start-holds}
 
 -- ---- the worlds of a sequence
 -- calls and cuts es after a format of geometry g have led to phase p
@@ -61,9 +61,6 @@ goes-step g b p e q (again xs) h on = tt
 goes-run : (g : Geometry) (b : Book) (p : Phase) (es : List Event) (q : Phase) → Run g p es q → Holds g b p → Goes p → Goes q
 goes-run g b p es q (stop p′) h on = on
 goes-run g b p es q (next {q = r} {e = e} {es = fs} s t) h on = goes-run g (tell b e) r fs q t (step-holds g b p e r s h) (goes-step g b p e r s h on)
-
-start-holds : (g : Geometry) (w : World) → Formatted g w → LiveAt g w (blank g)
-start-holds g w f = let s = formatted-live g w f in record { shape = s .0; world = s .1 }
 
 start-goes : (g : Geometry) (w : World) → Formatted g w → GoesOn w
 start-goes g w f i = absurd (false≢true (subst (λ (k : Work). isReclaim k ≡ true) (formatted-idle g w f) i))

@@ -6,11 +6,11 @@ use Prim.Native.Nat.{ℕ}
 use mathlib.Core.List.{List}
 use lib.Dec.{ltb}
 use Rattle.model.specs.Bytes.{bytes}
-use Rattle.model.specs.World.{World, Plan, Op, refuse, none, program, applyOp, cutOp, turn, dueBits, turnedBits, everyTurned, programs}
+use Rattle.model.specs.World.{World, Plan, Op, refuse, none, program, applyOp, cutOp, turn, dueBits, turnedBits, everyTurned}
 use Rattle.model.specs.Transactions.{placeOf, nextPage, heldOp, writePlan, lonePlan, forgetPlan, planBegin, planWrite, planLone, planCommit, planAbort}
 use Rattle.model.specs.Strides.{freeStride, planReclaim, withWork, withZones}
 use Rattle.model.specs.Commands.{Call, begin, write, lone, commit, abort, read, checkpoint, reclaim, plan, carried}
-use Rattle.model.specs.Book.{Book, tell, entering}
+use Rattle.model.specs.Book.{Book, Content, cutIn, tell, entering}
 use Rattle.model.specs.Sequence.{fits, cutEvent, cutArray}
 use Rattle.model.specs.declared.Place.{Place}
 use Rattle.arrays.specs.Tests.{Is, eqb-cases, and-right}
@@ -24,7 +24,7 @@ use Rattle.sequence.specs.Append.{Appends}
 use Rattle.sequence.specs.Begin.{Begins, begin-view}
 use Rattle.sequence.specs.Abort.{Aborts, abort-view}
 use Rattle.sequence.specs.Lone.{Lones, lone-view, lone-live, lone-appends}
-use Rattle.sequence.specs.Write.{WritesTo, write-view, write-live, page-appends}
+use Rattle.sequence.specs.Write.{WritesTo, write-view, write-live, page-appends, write-bytes, write-found}
 use Rattle.sequence.specs.Commit.{Commits, forgets, marks, commit-view, mark-live, mark-appends}
 use Rattle.sequence.specs.Checkpointing.{checkpoint-cuts}
 use Rattle.sequence.specs.Reclaiming.{Reclaims, copies, frees, reclaim-view, copy-live, copy-appends, free-cut}
@@ -46,34 +46,46 @@ pub cut-refused : (c : Call) (w : World) (b : Book) (lets : List ℕ) → Live w
 cut-refused c w b lets h n e = cut-none c w b lets h (ap (λ (p : Plan). p .op) e)
 
 -- a call that enters nothing: whatever turned
-cut-quiet : (c : Call) (w : World) (b : Book) (lets : List ℕ) → entering c b ≡ b .pages → Stored (w .state .geometry) (cutArray c w lets) (b .pages) → CutKeeps c w b lets
-unfolding cutEvent tell
-cut-quiet c w b lets e s = rw (e, either (programs (plan c w .op) && everyTurned (dueBits (plan c w .state .geometry .pages) (plan c w .op) (w .array)) (turnedBits (plan c w .state .geometry .pages) (plan c w .op) lets (w .array)))) s
+pub quiet-told : (c : Call) (b : Book) (programmed : Bool) (due turned : List ℕ) → entering c b ≡ b .pages → tell b (cutIn c programmed due turned) .pages ≡ b .pages
+unfolding tell
+quiet-told c b programmed due turned e = rw e (either (programmed && everyTurned due turned))
   where
     either : (t : Bool) → cond t (b .pages) (b .pages) ≡ b .pages
     either true = refl
     either false = refl
 
+cut-quiet : (c : Call) (w : World) (b : Book) (lets : List ℕ) → entering c b ≡ b .pages → Stored (w .state .geometry) (cutArray c w lets) (b .pages) → CutKeeps c w b lets
+unfolding cutEvent
+cut-quiet c w b lets e s = rw (quiet-told c b _ _ _ e) s
+
 -- a data page appended: all of it is there, or none
-cut-append : (c : Call) (w : World) (b b′ : Book) (lets : List ℕ) (p : Plan) → Live w b → plan c w ≡ p → Appends w b p → Live (after p w) b′ → b′ .pages ≡ entering c b → CutKeeps c w b lets
-unfolding cutArray cutEvent tell
-cut-append c w b b′ lets p h e a live pages = rw (e, a .does, a .geometry) (go (everyTurned (dueBits n op (w .array)) (turnedBits n op lets (w .array))) refl)
-  where
-    n : ℕ
-    n = w .state .geometry .pages
+module _ (w : World) (b b′ : Book) (lets : List ℕ) (p : Plan) (h : Live w b) (a : Appends w b p) (live : Live (after p w) b′) where
+  -- pages a block, what is programmed, and whether every due bit of it turned
+  abbrev n : ℕ
+  n = w .state .geometry .pages
 
-    op : Op
-    op = program (nextPage w) (a .new)
+  abbrev op : Op
+  op = program (nextPage w) (a .new)
 
-    whole : Stored (w .state .geometry) (applyOp n op (w .array)) (entering c b)
-    whole =
-        let u : Stored (p .state .geometry) (applyOp (p .state .geometry .pages) (p .op) (w .array)) (b′ .pages) = unfold carried in live-stored (after p w) b′ live in
-        let v : Stored (w .state .geometry) (applyOp n op (w .array)) (b′ .pages) = rw (a .geometry, a .does) at u in
-        rw pages at v
+  abbrev all : Bool
+  all = everyTurned (dueBits n op (w .array)) (turnedBits n op lets (w .array))
 
-    go : (t : Bool) → everyTurned (dueBits n op (w .array)) (turnedBits n op lets (w .array)) ≡ t → Stored (w .state .geometry) (cutOp n op lets (w .array)) (cond t (entering c b) (b .pages))
-    go true t = rw (cut-done n (w .array) (nextPage w) (a .new) (a .ok) lets (h .sound .bytes) t) whole
-    go false t = a .torn lets t
+  append-cut : (ps : List Content) → (all ≡ true → b′ .pages ≡ ps) → (all ≡ false → b .pages ≡ ps)
+      → Stored (w .state .geometry) (cutOp (p .state .geometry .pages) (p .op) lets (w .array)) ps
+  append-cut ps whole torn = rw (a .does, a .geometry) (go all refl)
+    where
+      done : Stored (w .state .geometry) (applyOp n op (w .array)) (b′ .pages)
+      done =
+          let u : Stored (p .state .geometry) (applyOp (p .state .geometry .pages) (p .op) (w .array)) (b′ .pages) = unfold carried in live-stored (after p w) b′ live in
+          rw (a .geometry, a .does) at u
+
+      go : (t : Bool) → all ≡ t → Stored (w .state .geometry) (cutOp n op lets (w .array)) ps
+      go true t = rw (cut-done n (w .array) (nextPage w) (a .new) (a .ok) lets (h .sound .bytes) t, ← whole t) done
+      go false t = rw (← torn t) (a .torn lets t)
+
+  cut-append : (c : Call) → plan c w ≡ p → b′ .pages ≡ entering c b → CutKeeps c w b lets
+  unfolding cutArray cutEvent tell
+  cut-append c e pages = rw e (append-cut _ (λ t. rw (a .does, a .geometry, t) pages) (λ t. rw (a .does, a .geometry, t) refl))
 
 -- ---- by the command
 pub begin-cuts : (w : World) (b : Book) (id : ℕ) (lets : List ℕ) → Live w b → CutKeeps (begin id) w b lets
@@ -103,7 +115,7 @@ lone-cuts w b lpn d lets h f = go (planLone lpn d w) refl (lone-view lpn d w)
     go p e (no n r) = cut-refused (lone lpn d) w b lets h n e
     go p e (yes q v) =
         let u : Lones w lpn d (lonePlan lpn d w) = subst (Lones w lpn d) (v .is) v in
-        cut-append (lone lpn d) w b _ lets (lonePlan lpn d w) h (e ∙ v .is) (lone-appends w b lpn d h small u) (lone-live w b lpn d h small u) (unfold entering in refl)
+        cut-append w b _ lets (lonePlan lpn d w) h (lone-appends w b lpn d h small u) (lone-live w b lpn d h small u) (lone lpn d) (e ∙ v .is) (unfold entering in refl)
 
 pub commit-cuts : (w : World) (b : Book) (id : ℕ) (lets : List ℕ) → Live w b → CutKeeps (commit id) w b lets
 unfolding plan forgetPlan
@@ -116,35 +128,34 @@ commit-cuts w b id lets h = go (planCommit id w) refl (commit-view id w)
     does p e (forgets idle found zero′) = cut-none (commit id) w b lets h (ap (λ (p : Plan). p .op) e)
     does p e (marks idle found many more short) =
         let f = place-found (w .state .places) id (h .changing .eight) found in
-        cut-append (commit id) w b _ lets p h e (mark-appends w b h id i idle f many more short) (mark-live w b h id i idle f many more short) (unfold entering in refl)
+        cut-append w b _ lets p h (mark-appends w b h id i idle f many more short) (mark-live w b h id i idle f many more short) (commit id) e (unfold entering in refl)
 
     go : (p : Plan) → planCommit id w ≡ p → View w (Commits w id) p → CutKeeps (commit id) w b lets
     go p e (no n r) = cut-refused (commit id) w b lets h n e
     go p e (yes q v) = does q e v
 
-pub write-cuts : (w : World) (b : Book) (id lpn : ℕ) (d : List ℕ) (lets : List ℕ) → Live w b → fits (write id lpn d) ≡ true → CutKeeps (write id lpn d) w b lets
-unfolding plan fits
-write-cuts w b id lpn d lets h f = go (planWrite id lpn d w) refl (write-view id lpn d w)
+-- of a plan that writes or refuses
+pub write-cut : (w : World) (b : Book) (id lpn : ℕ) (d : List ℕ) (lets : List ℕ) → Live w b → fits (write id lpn d) ≡ true → (q : Plan) → View w (WritesTo w id lpn d) q
+    → Stored (w .state .geometry) (cutOp (q .state .geometry .pages) (q .op) lets (w .array)) (b .pages)
+write-cut w b id lpn d lets h f q (no n r) = unfold cutOp turn in live-stored w b h
+write-cut w b id lpn d lets h f q (yes p v) = rw (v .is) (does (eqb-cases (at .count) 0))
   where
-    small : Bytes d
-    small = bytes-true d (and-right (ltb lpn 65536) (bytes d) (and-right (ltb id 4294967296) _ f))
-
     i : ℕ
     i = placeOf (w .state .places) id
 
-    p : Place
-    p = placeAt (w .state .places) i
+    at : Place
+    at = placeAt (w .state .places) i
 
-    does : (q : Plan) → planWrite id lpn d w ≡ q → WritesTo w id lpn d q → Is (p .count) 0 → CutKeeps (write id lpn d) w b lets
-    does q e v (inl z) = cut-none (write id lpn d) w b lets h (ap (λ (p : Plan). p .op) (e ∙ v .is) ∙ (unfold writePlan heldOp in rw (z .1)))
-    does q e v (inr z) =
-        let fd = place-found (w .state .places) id (h .changing .eight) (v .begun) in
-        cut-append (write id lpn d) w b _ lets (writePlan i p lpn d w) h (e ∙ v .is) (page-appends w b h id lpn d (v .idle) (v .long) small (v .low) i fd (v .room) (z .0) (v .clean (z .0)))
-        (write-live w b h id lpn d (v .idle) (v .long) small (v .low) i fd (v .room) (v .clean)) (unfold entering in refl)
+    does : Is (at .count) 0 → Stored (w .state .geometry) (cutOp (writePlan i at lpn d w .state .geometry .pages) (writePlan i at lpn d w .op) lets (w .array)) (b .pages)
+    does (inl z) = unfold writePlan heldOp cutOp turn in rw (z .1) (live-stored w b h)
+    does (inr z) =
+        let fd = write-found w b id lpn d h f v in
+        append-cut w b _ lets (writePlan i at lpn d w) h (page-appends w b h id lpn d (v .idle) (v .long) (write-bytes w b id lpn d h f) (v .low) i fd (v .room) (z .0) (v .clean (z .0)))
+        (write-live w b h id lpn d (v .idle) (v .long) (write-bytes w b id lpn d h f) (v .low) i fd (v .room) (v .clean)) (b .pages) (λ t. refl) (λ t. refl)
 
-    go : (q : Plan) → planWrite id lpn d w ≡ q → View w (WritesTo w id lpn d) q → CutKeeps (write id lpn d) w b lets
-    go q e (no n r) = cut-refused (write id lpn d) w b lets h n e
-    go q e (yes r v) = does r e v (eqb-cases (p .count) 0)
+pub write-cuts : (w : World) (b : Book) (id lpn : ℕ) (d : List ℕ) (lets : List ℕ) → Live w b → fits (write id lpn d) ≡ true → CutKeeps (write id lpn d) w b lets
+unfolding plan
+write-cuts w b id lpn d lets h f = cut-quiet (write id lpn d) w b lets (unfold entering in refl) (unfold cutArray in write-cut w b id lpn d lets h f (planWrite id lpn d w) (write-view id lpn d w))
 
 pub checkpoint-cuts-kept : (w : World) (b : Book) (lets : List ℕ) → Live w b → CutKeeps checkpoint w b lets
 checkpoint-cuts-kept w b lets h = cut-quiet checkpoint w b lets (unfold entering in refl) (checkpoint-cuts w b h lets)
@@ -154,7 +165,7 @@ unfolding plan
 reclaim-cuts w b lets h = go (planReclaim w) refl (reclaim-view w (h .sound .last))
   where
     does : (p : Plan) → planReclaim w ≡ p → Reclaims w p → CutKeeps reclaim w b lets
-    does p e (copies c calm′ on some) = cut-append reclaim w b b lets p h e (copy-appends w b h c on calm′ some) (copy-live w b h c on calm′ some) (unfold entering in refl)
+    does p e (copies c calm′ on some) = cut-append w b b lets p h (copy-appends w b h c on calm′ some) (copy-live w b h c on calm′ some) reclaim e (unfold entering in refl)
     does p e (frees c calm′ on zero′) = cut-quiet reclaim w b lets (unfold entering in refl)
         (unfold cutArray freeStride withWork withZones in rw e (free-cut w b h c on calm′ zero′ lets))
 

@@ -24,3 +24,4 @@ pub mod Theorem
 pub mod ScanOrder
 pub mod UnderWay
 pub mod Claims
+pub mod Former

@@ -15,8 +15,8 @@ use Rattle.model.specs.Checkpoint.{at, newest}
 use Rattle.model.specs.Geometry.{mapPages}
 use Rattle.model.specs.Commands.{Call, format, recover, begin, write, lone, commit, abort, read, checkpoint, reclaim, plan, carried, exec, Outcome}
 use Rattle.model.specs.Book.{Book, Event, called, blank, tell, story, entering, changing}
-use Rattle.model.specs.Sequence.{fits, Phase, live, dark, arrayOf, Allowed, cutEvent, cutArray, Step, call, cut, between, back, failed, lost, again, Run, stop, next}
-use Rattle.model.specs.Demand3.{Recovers, LiveReads, Demand3, FormatReads}
+use Rattle.model.specs.Sequence.{fits, Phase, live, dark, arrayOf, Allowed, cutEvent, cutArray, Step, call, cut, between, back, failed, lost, again, Run, stop, next, Formatted}
+use Rattle.model.specs.Demand3.{Recovers, LiveReads, Kept, Demand3, FormatReads}
 use Rattle.model.specs.declared.Geometry.{Geometry}
 use Rattle.model.specs.declared.State.{State}
 use Rattle.model.specs.Zones.{Entry}
@@ -173,15 +173,19 @@ holds-reads : (g : Geometry) (b : Book) (p : Phase) → Holds g b p → LiveRead
 holds-reads g b (live w) h = λ lpn l. live-reads w b (h .world) lpn (rw (h .shape) l)
 holds-reads g b (dark xs) h = tt
 
+pub holds-kept : (g : Geometry) (es : List Event) (p : Phase) → Holds g (story (blank g) es) p → Kept g es p
+holds-kept g es p h = record {
+  recovers = λ map hold t wide long. recovered-right g (arrayOf p) (story (blank g) es) (holds-stored g (story (blank g) es) p h) map hold t wide long;
+  reads = holds-reads g (story (blank g) es) p h;
+}
+
+-- what a format leaves
+pub start-holds : (g : Geometry) (w : World) → Formatted g w → LiveAt g w (blank g)
+start-holds g w f = let s = formatted-live g w f in record { shape = s .0; world = s .1 }
+
 -- ---- the theorem
 pub demand3 : Demand3
-demand3 g w es p f r =
-    let s = formatted-live g w f in
-    let h = run-holds g (blank g) (live w) es p r (record { shape = s .0; world = s .1 }) in
-    record {
-      recovers = λ map hold t wide long. recovered-right g (arrayOf p) (story (blank g) es) (holds-stored g (story (blank g) es) p h) map hold t wide long;
-      reads = holds-reads g (story (blank g) es) p h;
-    }
+demand3 g w es p f r = holds-kept g es p (run-holds g (blank g) (live w) es p r (start-holds g w f))
 
 -- between two strides of the format every page is never written
 pub formatReads : FormatReads

@@ -17,8 +17,8 @@ use Rattle.model.specs.Answers.{refused}
 use Rattle.model.specs.World.{World, Plan, none, program, applyOp}
 use Rattle.model.specs.Frame.{noPlace, badId, isIdle}
 use Rattle.model.specs.Transactions.{placeOf, withPlace, cleanPages, nextPage, zoneShort, dataBytes, heldAt, holdWith, heldPage, longestChange, written, heldOp, writePlan, planWrite}
-use Rattle.model.specs.Commands.{write, plan, carried}
-use Rattle.model.specs.Book.{Book, Write, entering, changing, writesOf, addTo}
+use Rattle.model.specs.Commands.{write, plan, carried, exec}
+use Rattle.model.specs.Book.{Book, Write, called, entering, changing, tell, writesOf, addTo}
 use Rattle.model.specs.Sequence.{fits}
 use Rattle.model.specs.declared.Geometry.{Geometry}
 use Rattle.model.specs.declared.Place.{Place}
@@ -38,7 +38,7 @@ use Rattle.sequence.specs.OpenBook.{isOpen, add-own, add-other, add-open
 use Rattle.sequence.specs.Writes.{Writes, WholeSame, writes-keep, writes-more, hold-own, hold-other, hold-long, held-long}
 use Rattle.sequence.specs.Sound.{Sound}
 use Rattle.sequence.specs.Live.{Live, live-range, live-logged, scanned}
-use Rattle.sequence.specs.View.{View, yes, view-test, view-gate, idle-only, Keeps, done-live, view-keeps, idle-calm}
+use Rattle.sequence.specs.View.{View, no, yes, view-test, view-gate, idle-only, after, told-refused, Keeps, idle-calm}
 use Rattle.sequence.specs.Abort.{found-apart}
 use Rattle.sequence.specs.Lone.{room-clean}
 use Rattle.sequence.specs.Append.{Appends, appends, appended, next-is-data, next-blank, next-free, append-whole, append-data, append-spare, append-keeps, append-tidy, append-scan, append-front, append-sound, append-contents}
@@ -282,9 +282,29 @@ module _ (w : World) (b : Book) (h : Live w b) (id lpn : ℕ) (d : List ℕ) (id
       go (inl q) = rw (q .1) (first-live (nextPage w) (q .0))
       go (inr q) = rw (q .1) (more-live (q .0) (short (q .0)))
 
+-- ---- a plan that writes or refuses so
+module _ (w : World) (b : Book) (id lpn : ℕ) (d : List ℕ) (h : Live w b) (f : fits (write id lpn d) ≡ true) where
+  pub write-bytes : Bytes d
+  unfolding fits
+  write-bytes = bytes-true d (and-right (ltb lpn 65536) (bytes d) (and-right (ltb id 4294967296) _ f))
+
+  -- the change that it goes on with
+  pub write-found : {q : Plan} → WritesTo w id lpn d q → Found (w .state .places) id (placeOf (w .state .places) id)
+  write-found v = place-found (w .state .places) id (h .changing .eight) (v .begun)
+
+  -- the geometry stays
+  pub view-shape : (q : Plan) → View w (WritesTo w id lpn d) q → q .state .geometry ≡ w .state .geometry
+  unfolding writePlan withPlace
+  view-shape q (no n r) = refl
+  view-shape q (yes p v) = rw (v .is) refl
+
+  -- the world stays live
+  pub view-live : (q : Plan) → View w (WritesTo w id lpn d) q → Live (after q w) (tell b (called (write id lpn d) (q .answer)))
+  unfolding carried applyOp writePlan
+  view-live q (no n r) = rw (told-refused b (write id lpn d) n r) h
+  view-live q (yes p v) = rw (v .is) (unfold tell entering changing in
+      write-live w b h id lpn d (v .idle) (v .long) write-bytes (v .low) (placeOf (w .state .places) id) (write-found v) (v .room) (v .clean))
+
 pub write-keeps : (w : World) (b : Book) (id lpn : ℕ) (d : List ℕ) → Live w b → fits (write id lpn d) ≡ true → Keeps (write id lpn d) w b
-unfolding plan fits
-write-keeps w b id lpn d h f = view-keeps (write id lpn d) w b (WritesTo w id lpn d) h (write-view id lpn d w) (λ p e v.
-    done-live (write id lpn d) w b p e (unfold writePlan in rw (v .is)) (rw (v .is) (unfold entering changing in
-    write-live w b h id lpn d (v .idle) (v .long) (bytes-true d (and-right (ltb lpn 65536) (bytes d) (and-right (ltb id 4294967296) _ f))) (v .low)
-    (placeOf (w .state .places) id) (place-found (w .state .places) id (h .changing .eight) (v .begun)) (v .room) (v .clean))))
+unfolding exec plan carried
+write-keeps w b id lpn d h f = view-live w b id lpn d h f (planWrite id lpn d w) (write-view id lpn d w)

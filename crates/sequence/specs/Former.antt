@@ -1,0 +1,172 @@
+-- "Arrays holding a committed change of up to 64 pages must still recover in full": sequences of calls and cuts in which any write may be document 01's
+-- (docs/PAPERS.md), which goes up to 64 pages. What demand 3 says of the layer's own sequences holds of these too.
+use mathlib.Core.Path.{_≡_, refl, _∙_}
+use mathlib.Core.Logic.{_≢_}
+use mathlib.Core.Bool.{Bool, true, false, not, cond, _&&_, _||_}
+use Prim.Native.Nat.{ℕ, _≤_, _<_}
+use native.Mathlib.Omega.{arith}
+use mathlib.Core.List.{List, [], _∷_}
+use lib.ListN.{length, getD}
+use lib.Dec.{eqb, leb, ltb}
+use borrow.Author.Tests.{eqb-true, ne-eqb, ltb-true, lt-ltb, le-ltb, leb-true, leb-false, not-false}
+use Rattle.model.specs.Answers.{refused}
+use Rattle.model.specs.World.{World, Plan, refuse, dueBits, turnedBits, cutOp, programs}
+use Rattle.model.specs.Frame.{noPlace, frameOk, isIdle, gate}
+use Rattle.model.specs.Transactions.{unless, placeOf, zoneShort, longestChange, writePlan, planWrite}
+use Rattle.model.specs.Commands.{write, carried}
+use Rattle.model.specs.Book.{Book, Event, called, cutIn, blank, tell, story, entering}
+use Rattle.model.specs.Sequence.{fits, Phase, live, dark, Step, Run, stop, next, Formatted}
+use Rattle.model.specs.Demand3.{Kept}
+use Rattle.model.specs.declared.Geometry.{Geometry}
+use Rattle.model.specs.declared.Place.{Place}
+use Rattle.arrays.specs.Tests.{and-left, and-right}
+use Rattle.sequence.specs.Places.{placeAt}
+use Rattle.sequence.specs.View.{View, yes, view-test, view-cond}
+use Rattle.sequence.specs.Write.{WritesTo, write-view, view-shape, view-live}
+use Rattle.sequence.specs.Cuts.{quiet-told, write-cut}
+use Rattle.sequence.specs.Theorem.{Holds, step-holds, holds-kept, start-holds}
+
+-- ---- the former write
+-- "64 pages already written" was too long
+unfoldable pub hasRoom : Place → Bool
+hasRoom p = ltb (p .count) 64
+
+-- where this layer answers 10 and the place has room, it goes on: 12, or one page more
+unfoldable pub formerWrite : ℕ → ℕ → List ℕ → World → Plan
+formerWrite id lpn d w =
+    let i = placeOf (w .state .places) id in
+    let p = getD (w .state .places) i noPlace in
+    cond (eqb (planWrite id lpn d w .answer) 10 && hasRoom p)
+    (cond (zoneShort w) (refuse w 12) (writePlan i p lpn d w))
+    (planWrite id lpn d w)
+
+-- a cut in it: what is told of it, and the array that it leaves
+unfoldable pub formerEvent : ℕ → ℕ → List ℕ → World → List ℕ → Event
+formerEvent id lpn d w lets =
+    let p = formerWrite id lpn d w in
+    let n = p .state .geometry .pages in
+    cutIn (write id lpn d) (programs (p .op)) (dueBits n (p .op) (w .array)) (turnedBits n (p .op) lets (w .array))
+
+unfoldable pub formerArray : ℕ → ℕ → List ℕ → World → List ℕ → List ℕ
+formerArray id lpn d w lets = cutOp (formerWrite id lpn d w .state .geometry .pages) (formerWrite id lpn d w .op) lets (w .array)
+
+-- ---- sequences
+-- a step of a sequence; or a former write, or a cut in one
+pub data FormerStep (g : Geometry) : Phase → Event → Phase → Type 0 where
+  step : {p q : Phase} {e : Event} → Step g p e q → FormerStep g p e q
+  wrote : (id lpn : ℕ) (d : List ℕ) (w : World) → fits (write id lpn d) ≡ true
+      → FormerStep g (live w) (called (write id lpn d) (formerWrite id lpn d w .answer)) (live (carried (formerWrite id lpn d w) w .world))
+  cut-off : (id lpn : ℕ) (d : List ℕ) (w : World) (lets : List ℕ) → fits (write id lpn d) ≡ true
+      → FormerStep g (live w) (formerEvent id lpn d w lets) (dark (formerArray id lpn d w lets))
+
+pub data FormerRun (g : Geometry) : Phase → List Event → Phase → Type 0 where
+  end : (p : Phase) → FormerRun g p [] p
+  then : {p q r : Phase} {e : Event} {es : List Event} → FormerStep g p e q → FormerRun g q es r → FormerRun g p (e ∷ es) r
+
+-- every sequence of this layer alone is one of these
+pub former-own : {g : Geometry} {p q : Phase} {es : List Event} → Run g p es q → FormerRun g p es q
+former-own (stop p) = end p
+former-own (next s r) = then (step s) (former-own r)
+
+-- what is claimed: after any of them the next recovery is done, and each logical page reads as the book has it
+abbrev pub FormerKept : Type 0
+FormerKept = (g : Geometry) (w : World) (es : List Event) (p : Phase) → Formatted g w → FormerRun g (live w) es p → Kept g es p
+
+-- ---- where a write answers 10, nothing but the length stands against it
+module _ (w : World) {A : Type 0} where
+  -- a test that refuses with another number
+  ten-test : (t : Bool) (n : ℕ) (p : Plan) → n ≢ 10 → (t ≡ false → p .answer ≡ 10 → A) → cond t (refuse w n) p .answer ≡ 10 → A
+  ten-test true n p other go e = absurd (other e)
+  ten-test false n p other go e = go refl e
+
+  -- refusals 1 and 17
+  ten-gate : (p : Plan) → (isIdle (w .state .work) ≡ true → p .answer ≡ 10 → A) → unless (gate false w) w p .answer ≡ 10 → A
+  unfolding gate
+  ten-gate p go e = by (frameOk w) (isIdle (w .state .work)) go e
+    where
+      by : (f i : Bool) → (i ≡ true → p .answer ≡ 10 → A) → cond (eqb (cond f (cond (i || false) 0 17) 1) 0) p (refuse w (cond f (cond (i || false) 0 17) 1)) .answer ≡ 10 → A
+      by true true go e = go refl e
+      by true false go e = absurd (omega (arith, e))
+      by false i go e = absurd (omega (arith, e))
+
+module _ (id lpn : ℕ) (d : List ℕ) (w : World) where
+  -- the place of the change
+  abbrev i : ℕ
+  i = placeOf (w .state .places) id
+
+  abbrev at : Place
+  at = placeAt (w .state .places) i
+
+  -- ---- it is document 01's write: a page up to the 64th goes; at 64, and where this layer answers anything but 10, it is this layer's
+  module _ (pass : gate false w ≡ 0) (long : eqb (length d) 512 ≡ true) (in-range : leb (w .state .geometry .logical) lpn ≡ false) (open-at : leb 8 i ≡ false) where
+    pub former-done : at .count < 64 → (not (eqb (at .count) 0) && zoneShort w) ≡ false → formerWrite id lpn d w ≡ writePlan i at lpn d w
+    unfolding formerWrite hasRoom planWrite writePlan
+    former-done room short = by (leb longestChange (at .count)) refl
+      where
+        by : (t : Bool) → leb longestChange (at .count) ≡ t → formerWrite id lpn d w ≡ writePlan i at lpn d w
+        by true t =
+            let some : eqb (at .count) 0 ≡ false = ne-eqb (at .count) 0 (λ z. omega (arith, leb-true longestChange (at .count) t, z)) in
+            let none : zoneShort w ≡ false = rw some at short in
+            rw (pass, long, in-range, open-at, t, lt-ltb (at .count) 64 room, none) refl
+        by false t = rw (pass, long, in-range, open-at, t, short) refl
+
+  pub former-full : 64 ≤ at .count → formerWrite id lpn d w ≡ planWrite id lpn d w
+  unfolding formerWrite hasRoom
+  former-full full = rw (le-ltb (at .count) 64 full) (either (eqb (planWrite id lpn d w .answer) 10))
+    where
+      either : (t : Bool) → cond (t && false) (cond (zoneShort w) (refuse w 12) (writePlan i at lpn d w)) (planWrite id lpn d w) ≡ planWrite id lpn d w
+      either true = refl
+      either false = refl
+
+  pub former-same : eqb (planWrite id lpn d w .answer) 10 ≡ false → formerWrite id lpn d w ≡ planWrite id lpn d w
+  unfolding formerWrite
+  former-same e = rw e refl
+
+  -- ---- it writes, or refuses
+  longer : planWrite id lpn d w .answer ≡ 10 → at .count < 64 → zoneShort w ≡ false → WritesTo w id lpn d (writePlan i at lpn d w)
+  unfolding planWrite
+  longer e room short =
+      ten-gate w _ (λ idle.
+      ten-test w (not (eqb (length d) 512)) 11 _ (λ z. omega (arith, z)) (λ a.
+      ten-test w (leb (w .state .geometry .logical) lpn) 5 _ (λ z. omega (arith, z)) (λ c.
+      ten-test w (leb 8 i) 8 _ (λ z. omega (arith, z)) (λ found x.
+      record {
+        idle = idle;
+        long = eqb-true (length d) 512 (not-false (eqb (length d) 512) a);
+        low = leb-false (w .state .geometry .logical) lpn c;
+        begun = found;
+        room = room;
+        clean = λ z. short;
+        is = refl;
+      })))) e
+
+  room-in : hasRoom at ≡ true → at .count < 64
+  unfolding hasRoom
+  room-in h = ltb-true (at .count) 64 h
+
+  pub former-view : View w (WritesTo w id lpn d) (formerWrite id lpn d w)
+  unfolding formerWrite refused
+  former-view =
+      view-cond w (WritesTo w id lpn d) (eqb (planWrite id lpn d w .answer) 10 && hasRoom at) _ _ (λ t.
+      view-test w (WritesTo w id lpn d) (zoneShort w) 12 _ refl (λ short.
+      yes _ (longer (eqb-true _ 10 (and-left (eqb (planWrite id lpn d w .answer) 10) _ t)) (room-in (and-right (eqb (planWrite id lpn d w .answer) 10) _ t)) short)))
+      (λ t. write-view id lpn d w)
+
+-- ---- the invariant of demand 3 is kept
+former-holds : (g : Geometry) (b : Book) (p : Phase) (e : Event) (q : Phase) → FormerStep g p e q → Holds g b p → Holds g (tell b e) q
+former-holds g b p e q (step s) h = step-holds g b p e q s h
+former-holds g b p e q (wrote id lpn d w f) h = record {
+  shape = unfold carried in (view-shape w b id lpn d (h .world) f _ (former-view id lpn d w) ∙ h .shape);
+  world = view-live w b id lpn d (h .world) f _ (former-view id lpn d w);
+}
+former-holds g b p e q (cut-off id lpn d w lets f) h =
+    unfold formerEvent formerArray in
+    rw (quiet-told (write id lpn d) b _ _ _ (unfold entering in refl), ← h .shape) (write-cut w b id lpn d lets (h .world) f _ (former-view id lpn d w))
+
+former-run : (g : Geometry) (b : Book) (p : Phase) (es : List Event) (q : Phase) → FormerRun g p es q → Holds g b p → Holds g (story b es) q
+unfolding story
+former-run g b p es q (end p′) h = h
+former-run g b p es q (then {q = r} {e = e} {es = fs} s t) h = former-run g (tell b e) r fs q t (former-holds g b p e r s h)
+
+pub former-kept : FormerKept
+former-kept g w es p f r = holds-kept g es p (former-run g (blank g) (live w) es p r (start-holds g w f))
