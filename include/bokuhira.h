@@ -52,9 +52,9 @@ extern "C" {
 #endif
 
 #define BOKUHIRA_VERSION_MAJOR 0
-#define BOKUHIRA_VERSION_MINOR 1
+#define BOKUHIRA_VERSION_MINOR 2
 #define BOKUHIRA_VERSION_PATCH 0
-#define BOKUHIRA_VERSION "0.1.0"
+#define BOKUHIRA_VERSION "0.2.0"
 
 /*
  * The state: each field by its offset, little-endian, with nothing left between the fields. BOKUHIRA_STATE bytes encode a state if the

@@ -40,7 +40,7 @@ pub const SPARE: usize = 16;
 pub const HOLD: usize = 4096;
 /// The bytes of a state.
 pub const STATE: usize = 2366;
-/// The pages up to which a change may be written. One of an earlier release may have up to 64: it can still be committed or aborted.
+/// The pages up to which a change may be written. One that was begun before version 0.2 may have up to 64: it can be committed or aborted.
 pub const CHANGE_PAGES: usize = 41;
 /// The map entry of a logical page that was never written.
 pub const UNMAPPED: u16 = 0xFFFF;

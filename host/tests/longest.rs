@@ -1,5 +1,5 @@
 //! The longest change (document 02, point 1; docs/PAPERS.md), on both layers: the 41st page goes, the 42nd answers 10. A change of up to 64
-//! pages, as a release with that limit left it, is recovered in full and can still be committed or aborted.
+//! pages, as version 0.1 left it, is recovered in full and can still be committed or aborted.
 mod common;
 
 use bokuhira::{Call, Geometry, Place, State, Store, CHANGE_PAGES, DATA, PAGE};
