@@ -1,5 +1,5 @@
--- Rows of the rules: a second table beside the starred one. A row is a sentence of document 01 (docs/PAPERS.md) that neither demand 3 nor a bench
--- case tells from a wrong one: its name, what the definitions give for small inputs, and what document 01 says. One theorem says that every row
+-- Rows of the rules: a second table beside the starred one. A row is a sentence of document 01 or 02 (docs/PAPERS.md) that neither demand 3 nor a bench
+-- case tells from a wrong one: its name, what the definitions give for small inputs, and what the paper says. One theorem says that every row
 -- holds. The orders of refusals stand in `Orders`, as laws over all worlds.
 use Prim.Native.Nat.{ℕ, zero, suc, _+_, _-_, _*_}
 use mathlib.Core.Path.{_≡_, refl, ap}
