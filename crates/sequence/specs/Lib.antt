@@ -25,3 +25,4 @@ pub mod ScanOrder
 pub mod UnderWay
 pub mod Claims
 pub mod Former
+pub mod LongRun

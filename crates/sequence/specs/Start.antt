@@ -35,17 +35,20 @@ use Rattle.sequence.specs.Live.{Live, free-places-good, free-opens, free
 pub format-zones-ok : (g : Geometry) → InGeometry g → zonesOk g (formatZones g) ≡ true
 format-zones-ok g r = format-ok g (omega (arith, r .blocks-least))
 
+-- the data blocks of a fresh array are erased
+pub fresh-erased : (g : Geometry) (xs : List ℕ) → InGeometry g → Fresh g xs → (b : ℕ) → dataBlock g b ≡ true → usedIn xs (g .pages) b ≡ 0
+fresh-erased g xs r f b d = used-in-none xs (g .pages) b (λ i l.
+    let m : 2 * g .pages ≤ b * g .pages = mul-le-mul-right (g .pages) (block-least g b d) in
+    let n : suc b * g .pages ≤ g .blocks * g .pages = mul-le-mul-right (g .pages) (block-most g b d) in
+    f .clean (b * g .pages + i) (omega (arith, maps-few g r, r .pages-least)) (omega arith))
+
 module _ (g : Geometry) (xs hold : List ℕ) (ok : geometryOk g ≡ true) (r : InGeometry g) (long : length hold ≡ 4096) (f : Fresh g xs)
     (k : Kept (handed xs (blankMap g) hold (stateDone g)) (formatSaved g)) where
   big : 2 < g .blocks
   big = omega (arith, r .blocks-least)
 
-  -- the data blocks are erased
   erased : (b : ℕ) → dataBlock g b ≡ true → usedIn xs (g .pages) b ≡ 0
-  erased b d = used-in-none xs (g .pages) b (λ i l.
-      let m : 2 * g .pages ≤ b * g .pages = mul-le-mul-right (g .pages) (block-least g b d) in
-      let n : suc b * g .pages ≤ g .blocks * g .pages = mul-le-mul-right (g .pages) (block-most g b d) in
-      f .clean (b * g .pages + i) (omega (arith, maps-few g r, r .pages-least)) (omega arith))
+  erased = fresh-erased g xs r f
 
   start-sound : Sound g xs (formatSaved g) (blankMap g) 0 (blank g .pages)
   unfolding formatSaved
