@@ -3,7 +3,7 @@
 mod common;
 
 use bokuhira::{Call, Geometry, Kind, Place, State, Store, Work, Zones, DATA, HOLD, PAGE, STATE, UNMAPPED};
-use common::{formatted, lost_state, say, spare, whole_page, Layer, Met, Rng, LAYERS, NAMES};
+use common::{compare, formatted, lost_state, put, say, spare, told, whole_page, zone_data, Layer, Met, Rng, LAYERS, NAMES};
 
 /// Worlds and the calls on them, drawn from one seed.
 struct Maker {
@@ -18,19 +18,7 @@ impl Maker {
 
     /// A call on both layers, from the same world. The world becomes what it leaves.
     fn compare(&mut self, world: &mut Store, call: &Call) -> u8 {
-        let before = world.clone();
-        let mut plain = world.clone();
-        let answer = Layer::Proved.call(world, call);
-        assert_eq!(Layer::Plain.call(&mut plain, call), answer, "plain and proved answer otherwise to {call:?}: {}", told(&before));
-        assert!(*world == plain, "after {call:?}, {answer}: {}\n  proved {}\n  plain  {}", told(&before), told(world), told(&plain));
-        if answer != 0 && answer != 255 {
-            assert!(*world == before, "{call:?} was refused with {answer} and changed something");
-        }
-        if let Call::Read(lpn) = call {
-            let (part, other) = (Layer::Proved.read(world, *lpn), Layer::Plain.read(world, *lpn));
-            assert_eq!(part.map(<[u8]>::as_ptr), other.map(<[u8]>::as_ptr), "the parts of a read");
-            assert_eq!(part.map_or_else(|n| (n, 0), |p| (0, p.len())), (answer, if answer == 0 { DATA } else { 0 }));
-        }
+        let answer = compare(world, call);
         self.met.note(call, answer);
         answer
     }
@@ -59,9 +47,7 @@ impl Maker {
     /// Some of the numbers from..to, each once, in any order.
     fn some_of(&mut self, from: usize, to: usize, most: usize) -> Vec<usize> {
         let mut all: Vec<usize> = (from..to).collect();
-        for i in (1..all.len()).rev() {
-            all.swap(i, self.rng.below(i + 1));
-        }
+        self.rng.shuffle(&mut all);
         all.truncate(self.rng.below(most.min(to - from) + 1));
         all
     }
@@ -134,10 +120,6 @@ impl Maker {
         page
     }
 
-    fn put(&mut self, world: &mut Store, k: usize, page: &[u8]) {
-        world.array[k * PAGE..][..PAGE].copy_from_slice(page);
-    }
-
     /// A complete checkpoint from page k on; some of it is spoilt now and then, and yet whole.
     fn checkpoint(&mut self, world: &mut Store, g: Geometry, k: usize, number: u32) {
         let m = g.map_pages();
@@ -148,13 +130,10 @@ impl Maker {
             entries[at] = self.rng.next() as u8;
         }
         let zones = self.zones(g);
-        let mut data = vec![0; DATA];
-        data[..4].copy_from_slice(&(self.below(400) as u32).to_le_bytes());
-        data[4..8].copy_from_slice(&[zones.pointer, zones.available.len() as u8, zones.unavailable.len() as u8, zones.free.len() as u8]);
-        let blocks = [zones.available, zones.unavailable, zones.free].concat();
-        data[8..8 + blocks.len()].copy_from_slice(&blocks);
+        let mut data = zone_data(self.below(400) as u32, &zones);
         if self.rng.once_in(8) {
-            let among = if self.rng.once_in(6) { DATA - 4 } else { 6 + blocks.len() };
+            let blocks = zones.available.len() + zones.unavailable.len() + zones.free.len();
+            let among = if self.rng.once_in(6) { DATA - 4 } else { 6 + blocks };
             let at = 4 + self.below(among);
             data[at] = self.below(16) as u8;
         }
@@ -168,7 +147,7 @@ impl Maker {
             if self.rng.once_in(25) {
                 page[self.rng.below(PAGE)] ^= 1;
             }
-            self.put(world, k + i, &page);
+            put(&mut world.array, k + i, &page);
         }
     }
 
@@ -229,7 +208,7 @@ impl Maker {
             };
             for q in 0..filled {
                 let page = self.page(g);
-                self.put(&mut world, b * pages + q, &page);
+                put(&mut world.array, b * pages + q, &page);
             }
         }
         let mut number = if self.rng.once_in(20) { u32::MAX - 4 } else { self.below(6) as u32 };
@@ -252,7 +231,7 @@ impl Maker {
             _ => None,
         };
         if let Some(k) = next.filter(|_| !self.rng.once_in(4)) {
-            self.put(&mut world, k, &[255; PAGE]);
+            put(&mut world.array, k, &[255; PAGE]);
         }
         world.state = state.encode();
         world
@@ -341,7 +320,7 @@ impl Maker {
                     let k = self.below(g.blocks as usize * g.pages as usize);
                     let page = if self.rng.once_in(4) { vec![255; PAGE] } else { self.page(g) };
                     if world.array.len() >= (k + 1) * PAGE {
-                        self.put(world, k, &page);
+                        put(&mut world.array, k, &page);
                     }
                 }
             }
@@ -589,16 +568,4 @@ fn any_state_will_do_at_power_up() {
             assert_eq!(State::decode(&w.state).map(|s| s.work.stride), Some(next), "{layer:?}");
         }
     }
-}
-
-/// What a message tells of a world.
-fn told(world: &Store) -> String {
-    format!(
-        "array of {}, map {:?}, hold of {}, state of {}: {:?}",
-        world.array.len(),
-        world.map,
-        world.hold.len(),
-        world.state.len(),
-        State::decode(&world.state)
-    )
 }

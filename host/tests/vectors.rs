@@ -3,7 +3,7 @@
 mod common;
 
 use bokuhira::{Call, Geometry, Kind, Place, State, Store, Work, Zones, PAGE, STATE};
-use common::{due_bits, formatted, say, spare, whole_page, Layer, LAYERS};
+use common::{due_bits, formatted, put, say, spare, whole_page, Layer, LAYERS};
 use std::collections::BTreeMap;
 use std::path::PathBuf;
 
@@ -243,7 +243,7 @@ fn replay(layer: Layer, name: &str, text: &str) -> usize {
             "byte" => w.array[n(1)] = number(words[2]),
             "page" => {
                 let made = spare(number(words[3]), number(words[4]), number(words[5]), number(words[6]), number(words[7]), number(words[8]));
-                w.array[n(1) * PAGE..][..PAGE].copy_from_slice(&whole_page(&data_of(words[2]), &made));
+                put(&mut w.array, n(1), &whole_page(&data_of(words[2]), &made));
             }
             "raw" => {
                 for i in 0..PAGE {

@@ -4,13 +4,14 @@ ghost use mathlib.Core.Path.{_≡_};
 ghost use Prim.Native.Nat.{_+_, _-_, _*_, _≤_};
 ghost use lib.ListN.{length};
 ghost use lib.Dec.{ltb};
-ghost use Rattle.model.specs.Page.{isWhole, spareOf, pageBytes, pageAt, blankAt, wholeAt};
+ghost use Rattle.model.specs.Page.{spareOf, pageBytes, pageAt, blankAt, wholeAt};
 ghost use Rattle.model.specs.Zones.{usedIn, cleanIn, nextIn};
 ghost use Rattle.model.specs.World.{applyOp, erase};
+ghost use Rattle.page.specs.Looking.{lookOf};
 ghost use Rattle.flash.specs.Programs.{Programmed};
 ghost use Rattle.flash.specs.Ranges.{Within};
-use model::Class;
 use model::Spare;
+use page::Looked;
 
 /// The part of the array that is page k.
 pub fn page_of(array: &[u8], k: usize) -> &[u8]
@@ -30,23 +31,12 @@ pub fn is_blank(array: &[u8], k: usize) -> bool
     page::erased(page_of(array, k))
 }
 
-/// Whether a class is whole.
-fn whole(c: Class) -> bool
-    ensures { λ r. ⌜ r ≡ isWhole c ⌝ }
-{
-    match c {
-        Class::Erased => false,
-        Class::Whole => true,
-        Class::Torn => false,
-    }
-}
-
 /// Whether page k is whole.
 pub fn is_whole(array: &[u8], k: usize) -> bool
     requires { ⌜ k * 528 + 528 ≤ length (now array) ⌝ }
     ensures { λ r. ⌜ r ≡ wholeAt (now (array .entry)) k ⌝ }
 {
-    whole(page::classify(page_of(array, k)))
+    page::is_whole(page::classify(page_of(array, k)))
 }
 
 /// The spare area of page k before Zeros.
@@ -55,6 +45,14 @@ pub fn spare_at(array: &[u8], k: usize) -> Spare
     ensures { λ r. ⌜ r ≡ spareOf (pageAt (now (array .entry)) k) ⌝ }
 {
     page::read_spare(page_of(array, k))
+}
+
+/// What a scan takes from page k.
+pub fn look_at(array: &[u8], k: usize) -> Looked
+    requires { ⌜ k * 528 + 528 ≤ length (now array) ⌝ }
+    ensures { λ r. ⌜ r ≡ lookOf (pageAt (now (array .entry)) k) ⌝ }
+{
+    page::look(page_of(array, k))
 }
 
 /// Programs page k with these data and this spare area.

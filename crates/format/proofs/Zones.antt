@@ -9,9 +9,9 @@ use Rattle.model.specs.Geometry.{geometryOk}
 use Rattle.model.specs.Zones.{Taken, zonesOf, zonesTaken, formatZones}
 use Rattle.model.specs.declared.Geometry.{Geometry}
 use Rattle.model.specs.declared.Zones.{Zones}
+use Rattle.arrays.specs.Tests.{length-up}
 use Rattle.arrays.specs.Ranges.{geometry-in}
 use Rattle.blocks.specs.Blocks.{Counted}
-use Rattle.refill.proofs.Free.{length-up}
 use Rattle.refill.proofs.Taking.{refill-fits, all-free}
 use Rattle.strides.proofs.Slides.{refill-same}
 

@@ -5,10 +5,17 @@ ghost use Prim.Native.Nat.{_+_, _≤_, _<_};
 ghost use lib.ListN.{length, take, replicate};
 ghost use lib.Seq.{sets};
 ghost use Rattle.model.specs.Bytes.{zeroBits, allFF, le16, le32, bytes16, bytes32};
-ghost use Rattle.model.specs.Page.{classOf, spareOf, spareBytes, pageBytes};
+ghost use Rattle.model.specs.Page.{classOf, isWhole, spareOf, spareBytes, pageBytes};
 ghost use Rattle.page.specs.Words.{le64};
+ghost use Rattle.page.specs.Looking.{lookOf};
 use model::Class;
 use model::Spare;
+
+/// What a scan takes from a page.
+pub struct Looked {
+    pub class: Class,
+    pub spare: Spare,
+}
 
 /// A byte as a number of 16 bits.
 fn wide(x: u8) -> u16
@@ -107,6 +114,28 @@ pub fn read_spare(page: &[u8]) -> Spare
         ver: word32(page, Spare::VER),
         kind: page[Spare::KIND],
         reserved: page[Spare::RESERVED],
+    }
+}
+
+/// Whether a class is whole.
+pub fn is_whole(c: Class) -> bool
+    ensures { λ r. ⌜ r ≡ isWhole c ⌝ }
+{
+    match c {
+        Class::Erased => false,
+        Class::Whole => true,
+        Class::Torn => false,
+    }
+}
+
+/// The class and the spare area: they depend on these 528 bytes alone.
+pub fn look(page: &[u8]) -> Looked
+    requires { ⌜ length (now page) ≡ 528 ⌝ }
+    ensures { λ r. ⌜ r ≡ lookOf (now (page .entry)) ⌝ }
+{
+    Looked {
+        class: classify(page),
+        spare: read_spare(page),
     }
 }
 

@@ -25,8 +25,13 @@ use Rattle.arrays.specs.Tests.{clash, decide}
 use Rattle.arrays.specs.Ranges.{geometry-in}
 use Rattle.load.specs.Load.{zonePageOk}
 use Rattle.load.proofs.Lists.{halves}
-use Rattle.scan.specs.Linked.{Blocks, Linked}
-use Rattle.scan.proofs.Chains.{linked-start}
+use Rattle.scan.specs.Taken.{Blocks, listed}
+use Rattle.scan.specs.Notes.{notesOf, metAll, start}
+use Rattle.scan.specs.Judged.{changesOf, Scanned}
+use Rattle.scan.specs.declared.Seen.{Seen}
+use Rattle.scan.proofs.Loops.{listed-length, listed-pages}
+use Rattle.scan.proofs.Visiting.{met-few}
+use Rattle.scan.proofs.Judging.{good-top}
 use Rattle.recovery.specs.Redo.{Ready}
 use Rattle.strides.specs.Strode.{Strode}
 use Rattle.recover.specs.Recovering.{Scan, scannedOf, recoveredOf, Scannable, Standing, Loaded}
@@ -40,17 +45,41 @@ module _ (g : Geometry) (xs map bs entries : List ℕ) (h : Scannable g xs map b
       let a = i .pages-least in
       record { least = omega arith; most = i .pages-most; within = h .blocks }
 
-  -- before any slot is linked, n being the number of slots
-  pub link-start : (n : ℕ) → n ≡ length bs * g .pages → Linked (length bs * g .pages) xs (g .pages) bs (replicate 2048 n) (replicate 8064 0)
-  link-start n e = linked-start xs (g .pages) bs n (replicate 8064 0) blocks-in e (length-replicate {A = ℕ} 8064 0)
+  -- all pages of the scan were visited, and met so
+  pub scan-met : (order other notes : List ℕ) (m : Seen) → order ≡ listed (g .pages) bs → length other ≡ length bs * g .pages
+      → m ≡ metAll (g .logical) xs order start → notes ≡ notesOf xs order → Scanned (g .logical) xs (g .pages) bs order notes other m
+  scan-met order other notes m l r s n =
+      record {
+        blocks = blocks-in;
+        list = l;
+        visit = record { pages = rw l (listed-pages xs (g .pages) bs blocks-in); note = n; room = r ∙ sym (ap length l ∙ listed-length (g .pages) bs) };
+        met = s;
+      }
 
--- entries that were copied into the map, over a scan that refusal 4 passes
-pub redo-ready : (logical : ℕ) (xs : List ℕ) (p : ℕ) (bs head next map entries m : List ℕ) → Linked 0 xs p bs head next
-    → (good : Bool) → good ≡ pagesGood logical (scanIn xs p bs) → good ≡ true
-    → length map ≡ logical → logical ≤ length entries → m ≡ take (length map) entries → Ready m xs p bs head next
-redo-ready logical xs p bs head next map entries m l good eg ok h k e =
-    let n : length m ≡ logical = ap length e ∙ length-take-le (length map) entries (omega arith) ∙ h in
-    record { linked = l; good = rw n (sym eg ∙ ok) }
+  -- no more pages of changes than pages
+  pub changes-few : (order : List ℕ) (m : Seen) → m ≡ metAll (g .logical) xs order start → m .changes ≤ length order
+  changes-few order m s = omega (arith, ap (λ (x : Seen). x .changes) s, met-few (g .logical) xs order start)
+
+  -- entries that were copied into the map m, over a scan that refusal 4 passes
+  pub redo-ready : (good : Bool) → good ≡ pagesGood (g .logical) (scanIn xs (g .pages) bs) → good ≡ true → (m : List ℕ) → m ≡ take (length map) entries
+      → (order other notes changes : List ℕ) → order ≡ listed (g .pages) bs → length other ≡ length bs * g .pages → notes ≡ notesOf xs order → changes ≡ changesOf xs (listed (g .pages) bs)
+      → Ready m xs (g .pages) bs changes notes other
+  redo-ready good eg ok m e order other notes changes l r n c =
+      let i = geometry-in g (h .shape) in
+      let k : length m ≡ g .logical = ap length e ∙ length-take-le (length map) entries (omega (arith, h .mapped, h .enough)) ∙ h .mapped in
+      record {
+        blocks = blocks-in;
+        good = rw k (sym eg ∙ ok);
+        few = omega (arith, k, i .logical-most);
+        change = c;
+        note = n ∙ ap (notesOf xs) l;
+        room = r;
+      }
+
+  -- the highest version that was met
+  pub top-met : (good : Bool) → good ≡ pagesGood (g .logical) (scanIn xs (g .pages) bs) → good ≡ true → (order : List ℕ) → order ≡ listed (g .pages) bs
+      → (m : Seen) → m ≡ metAll (g .logical) xs order start → m .top ≡ top (scanIn xs (g .pages) bs)
+  top-met good eg ok order l m s = ap (λ (x : Seen). x .top) (s ∙ ap (λ (ks : List ℕ). metAll (g .logical) xs ks start) l) ∙ good-top (g .logical) xs (g .pages) bs (sym eg ∙ ok)
 
 -- what is made of a scan that refusal 4 does not pass, and of one that it passes
 module _ (logical : ℕ) (es : List Entry) (floor : ℕ) (entries map : List ℕ) where

@@ -49,6 +49,12 @@ pub record Scannable (g : Geometry) (xs map bs entries : List ℕ) : Type 0 wher
   pub mapped : length map ≡ g .logical
   pub enough : g .logical ≤ length entries
 
+-- lists as long as a scan of these blocks, p pages a block
+pub record Lent (p : ℕ) (bs order other notes : List ℕ) : Type 0 where
+  pub pages : length order ≡ length bs * p
+  pub room : length other ≡ length bs * p
+  pub noted : length notes ≡ length bs * p
+
 -- array and map have the geometry's lengths, and the pages of a checkpoint from page k on lie in the front
 pub record Standing (g : Geometry) (xs map : List ℕ) (k : ℕ) : Type 0 where
   pub shape : geometryOk g ≡ true

@@ -1,7 +1,7 @@
 // Recover, from a complete checkpoint: 3, 4, and else the map and the state that follow. It programs nothing.
 ghost use mathlib.Core.Path.{_≡_};
 ghost use mathlib.Core.Bool.{true};
-ghost use Prim.Native.Nat.{_≤_, _<_, max};
+ghost use Prim.Native.Nat.{_≤_, _<_};
 ghost use lib.ListN.{length, take};
 ghost use Rattle.model.specs.Answers.{number};
 ghost use Rattle.model.specs.Geometry.{geometryOk};
@@ -10,7 +10,7 @@ ghost use Rattle.model.specs.Checkpoint.{at};
 ghost use Rattle.model.specs.World.{World};
 ghost use Rattle.model.specs.Recover.{recoverFrom};
 ghost use Rattle.strides.specs.Strode.{Strode};
-ghost use Rattle.recover.specs.Recovering.{scannedOf, recoveredOf, Scannable, Standing, Loaded};
+ghost use Rattle.recover.specs.Recovering.{scannedOf, recoveredOf, Scannable, Lent, Standing, Loaded};
 use model::Answer;
 use model::Geometry;
 use model::Map;
@@ -21,6 +21,11 @@ use model::State;
 use model::Work;
 use model::Zones;
 use strides::Stride;
+
+/// Few pages to scan, and the most: 126 blocks of 64.
+const FEW: usize = 512;
+
+const MOST: usize = 8064;
 
 /// Whether refusal 4 passes the scan, and its highest version.
 pub struct Scanned {
@@ -40,18 +45,51 @@ fn fill(map: &mut [u16], entries: &[u16])
     }
 }
 
-/// The higher of two versions.
-fn higher(v: u32, w: u32) -> u32
-    ensures { λ r. ⌜ r ≡ max v w ⌝ }
+/// Scans the blocks, and where refusal 4 passes makes the map of the entries and what is applied above the floor. A list of pages, room for
+/// another and notes are lent, each as long as the scan.
+fn scan_pages(
+    array: &[u8],
+    map: &mut [u16],
+    g: Geometry,
+    bs: &[u8],
+    floor: u32,
+    entries: &[u16],
+    order: &mut [u16],
+    other: &mut [u16],
+    notes: &mut [u8],
+) -> Scanned
+    requires { ⌜ Scannable g (now array) (now map) (now bs) (now entries) × Lent (g .pages) (now bs) (now order) (now other) (now notes) ⌝ }
+    ensures { λ r. ⌜ scannedOf (g .logical) (scanIn (now (array .entry)) (g .pages) (now (bs .entry))) floor (take (g .logical) (now (entries .entry))) (now (map .entry)) ≡ record { good = r .good; top = r .top; map = now (map .exit) } ⌝ }
 {
-    if v < w {
-        return w;
+    let pages = g.pages as usize;
+    scan::list(bs, pages, order);
+    let seen = scan::visit(array, order, notes, g.logical);
+    if !scan::pages_good(array, bs, pages, order, other, notes, seen, g.logical) {
+        return Scanned {
+            good: false,
+            top: 0,
+        };
     }
-    v
+    fill(map, entries);
+    let n = seen.changes as usize;
+    recovery::redo(
+        map,
+        array,
+        bs,
+        pages,
+        &order[..n],
+        notes,
+        other,
+        floor,
+        seen.top,
+    );
+    Scanned {
+        good: true,
+        top: seen.top,
+    }
 }
 
-/// Scans the blocks, and where refusal 4 passes makes the map of the entries and what is applied above the floor.
-/// The links of the scan take 20 KiB of local memory.
+/// The same, with lists in local memory: 40 KiB, or where few pages are scanned, as on most power-ups, 2.5 KiB.
 fn scan_blocks(
     array: &[u8],
     map: &mut [u16],
@@ -63,21 +101,37 @@ fn scan_blocks(
     requires { ⌜ Scannable g (now array) (now map) (now bs) (now entries) ⌝ }
     ensures { λ r. ⌜ scannedOf (g .logical) (scanIn (now (array .entry)) (g .pages) (now (bs .entry))) floor (take (g .logical) (now (entries .entry))) (now (map .entry)) ≡ record { good = r .good; top = r .top; map = now (map .exit) } ⌝ }
 {
-    let pages = g.pages as usize;
-    let n = scan::slots(bs, pages) as u16;
-    let mut head = [n; 2048];
-    let mut next = [0u16; 8064];
-    scan::link(array, bs, pages, &mut head, &mut next);
-    if !scan::pages_good(array, bs, pages, &head, &next, g.logical) {
-        return Scanned {
-            good: false,
-            top: 0,
-        };
+    let n = scan::slots(bs, g.pages as usize);
+    if n <= FEW {
+        let mut order = [0u16; FEW];
+        let mut other = [0u16; FEW];
+        let mut notes = [0u8; FEW];
+        return scan_pages(
+            array,
+            map,
+            g,
+            bs,
+            floor,
+            entries,
+            &mut order[..n],
+            &mut other[..n],
+            &mut notes[..n],
+        );
     }
-    let top = scan::top_version(array, bs, pages, &next);
-    fill(map, entries);
-    recovery::redo(map, array, bs, pages, &head, &next, floor, top);
-    Scanned { good: true, top }
+    let mut order = [0u16; MOST];
+    let mut other = [0u16; MOST];
+    let mut notes = [0u8; MOST];
+    scan_pages(
+        array,
+        map,
+        g,
+        bs,
+        floor,
+        entries,
+        &mut order[..n],
+        &mut other[..n],
+        &mut notes[..n],
+    )
 }
 
 /// The state from the checkpoint on page k on.
@@ -126,7 +180,7 @@ fn apply(
     let number = checkpoint::number_at(array, k);
     Stride {
         answer: Answer::Done,
-        state: recovered(g, zones, higher(floor, r.top), number, k),
+        state: recovered(g, zones, recovery::higher(floor, r.top), number, k),
     }
 }
 

@@ -1,2 +1,4 @@
-pub mod Laws
-pub mod Turns
+pub mod Fields
+pub mod Entering
+pub mod Running
+pub mod Redoing

@@ -1,49 +1,51 @@
--- What is applied, in the order in which a program meets it: one pass over the scan for each span of versions.
-use Prim.Native.Nat.{ℕ, min}
+-- What is applied, in the order in which a program meets it: one run of pages of one identifier after the other, then the lone pages, each page
+-- entered where its version is not below the best so far of its logical page.
+use Prim.Native.Nat.{ℕ, suc, _*_, _≤_, _<_}
 use mathlib.Core.Path.{_≡_}
-use mathlib.Core.Bool.{Bool, true, not, cond, _&&_}
-use mathlib.Core.List.{List, [], _∷_, _++_}
+use mathlib.Core.Logic.{_≢_}
+use mathlib.Core.Bool.{true, cond}
+use mathlib.Core.List.{List, [], _∷_}
 use lib.ListN.{length}
-use lib.Dec.{eqb, ltb, leb}
-use Rattle.model.specs.Lists.{keep}
+use lib.Dec.{eqb}
+use Rattle.model.specs.Lists.{those}
 use Rattle.model.specs.Zones.{Entry, scanIn}
-use Rattle.model.specs.Recovery.{isMark, ofId, pagesOf, committed, pagesGood}
-use Rattle.model.specs.declared.Spare.{Spare}
-use Rattle.scan.specs.Slots.{slotWhole, slotEntry}
-use Rattle.scan.specs.Linked.{Linked}
+use Rattle.model.specs.Recovery.{pagesGood, top}
+use Rattle.ranks.specs.Dealt.{Each, Sorted}
+use Rattle.ranks.specs.Pass.{Best}
+use Rattle.sorting.specs.Sort.{keyAt, Pages}
+use Rattle.scan.specs.Taken.{Blocks, listed, entryIn, entriesIn}
+use Rattle.scan.specs.Notes.{notesOf}
+use Rattle.scan.specs.Judged.{changesOf}
 
--- page e commits its transaction, and its version is above lo and at most hi
-unfoldable pub isDue : List Entry → ℕ → ℕ → Entry → Bool
-isDue es lo hi e = ltb lo (e .ver) && (leb (e .ver) hi && committed es e)
+-- a map, and for each logical page the best version so far
+abbrev pub best : List ℕ → List ℕ → Best
+best map ranks = record { map = map; ranks = ranks }
 
--- slot s has a whole page of which that holds
-unfoldable pub slotDue : List ℕ → ℕ → List ℕ → ℕ → ℕ → ℕ → Bool
-slotDue xs p bs lo hi s = slotWhole xs p bs s && isDue (scanIn xs p bs) lo hi (slotEntry xs p bs s)
+-- how many pages from the first on have the identifier
+unfoldable pub runOf : List ℕ → ℕ → List ℕ → ℕ
+runOf xs id [] = 0
+runOf xs id (k ∷ ks) = cond (eqb (keyAt xs 516 k) id) (suc (runOf xs id ks)) 0
 
--- the pages of the transactions that are due, as their marks stand in ys
-unfoldable pub dueIn : List Entry → ℕ → ℕ → List Entry → List Entry
-dueIn es lo hi [] = []
-dueIn es lo hi (y ∷ ys) = keep (isDue es lo hi y) (pagesOf es y) ++ dueIn es lo hi ys
+-- the version of a run: of its page whose TxCnt is their number, or 0
+unfoldable pub runVersion : List ℕ → List ℕ → ℕ
+runVersion xs run = top (those (λ (e : Entry). eqb (e .cnt) (length run)) (entriesIn xs run))
 
--- a spare area commits its transaction
-unfoldable pub spareCommits : List Entry → Spare → Bool
-spareCommits es e = not (eqb (e .cnt) 0) && eqb (e .cnt) (cond (eqb (e .id) 0) 1 (length (ofId (e .id) es)))
+-- pages that may be entered: they lie in the array, and their logical pages in the map
+pub record Enterable (xs ks map ranks : List ℕ) : Type 0 where
+  pub pages : Pages (length xs) ks
+  pub logical : Each (λ (k : ℕ). entryIn xs k .lpn < length map) ks
+  pub ranked : length ranks ≡ length map
 
--- the versions of the marks rise from above `last` on
-unfoldable pub riseFrom : ℕ → List Entry → Bool
-riseFrom last [] = true
-riseFrom last (e ∷ es) = cond (isMark e) (ltb last (e .ver) && riseFrom (e .ver) es) (riseFrom last es)
+-- pages of changes, sorted by identifier
+pub record Runs (xs ks : List ℕ) : Type 0 where
+  pub sorted : Sorted (keyAt xs 516) ks
+  pub change : Each (λ (k : ℕ). keyAt xs 516 k ≢ 0) ks
 
--- v where it is above `last`, and not above `least`
-unfoldable pub nearest : ℕ → ℕ → ℕ → ℕ
-nearest last v least = cond (ltb last v) (min v least) least
-
--- the least version above `last`, or 0xFFFFFFFF
-unfoldable pub leastAbove : ℕ → List Entry → ℕ
-leastAbove last [] = 4294967295
-leastAbove last (e ∷ es) = nearest last (e .ver) (leastAbove last es)
-
--- a map and a scan that refusal 4 passes, with all slots linked
-pub record Ready (map xs : List ℕ) (p : ℕ) (bs head next : List ℕ) : Type 0 where
-  pub linked : Linked 0 xs p bs head next
+-- a map and a scan that refusal 4 passes, with its notes, its pages of changes sorted by identifier, and room for its pages
+pub record Ready (map xs : List ℕ) (p : ℕ) (bs changes notes other : List ℕ) : Type 0 where
+  pub blocks : Blocks xs p bs
   pub good : pagesGood (length map) (scanIn xs p bs) ≡ true
+  pub few : length map ≤ 1024
+  pub change : changes ≡ changesOf xs (listed p bs)
+  pub note : notes ≡ notesOf xs (listed p bs)
+  pub room : length other ≡ length bs * p

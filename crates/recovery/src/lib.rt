@@ -1,256 +1,180 @@
-// What a recovery applies: the committed transactions above the floor, by rising version, along the chains of the scan.
-// Where the versions of the marks rise in scan order, as on a layer's own array, one pass does it; else a pass for each version.
+// What a recovery applies: the committed transactions above the floor, by rising version. They are entered in any order: for each logical page
+// the best version so far is kept, and a page enters where its own is not below it. So the pages of changes are taken as they stand sorted by
+// TxID, one run of an identifier after the other, and then the lone pages. It takes the same steps for any versions.
 ghost use mathlib.Core.Path.{_≡_};
-ghost use mathlib.Core.Bool.{true};
-ghost use Prim.Native.Nat.{_*_, _≤_, _<_};
-ghost use lib.ListN.{length};
-ghost use Rattle.model.specs.Zones.{scanIn};
-ghost use Rattle.model.specs.Recovery.{ofId, pagesOf, enter, top, applied, redone};
-ghost use Rattle.scan.specs.Slots.{slotWhole, slotEntry};
-ghost use Rattle.scan.specs.Linked.{Classed, Linked};
-ghost use Rattle.recovery.specs.Redo.{slotDue, dueIn, spareCommits, riseFrom, nearest, leastAbove, Ready};
+ghost use Prim.Native.Nat.{_+_, _*_, _≤_, _<_, max};
+ghost use lib.ListN.{length, drop, getD};
+ghost use Rattle.model.specs.Zones.{Entry, scanIn};
+ghost use Rattle.model.specs.Recovery.{top, redone};
+ghost use Rattle.ranks.specs.Pass.{enterBest, bestOf};
+ghost use Rattle.ranks.specs.Best.{rankOf};
+ghost use Rattle.sorting.specs.Sort.{keyAt, Pages};
+ghost use Rattle.scan.specs.Taken.{listed, entryIn, entriesIn};
+ghost use Rattle.scan.specs.Notes.{noted};
+ghost use Rattle.recovery.specs.Redo.{best, runOf, runVersion, Enterable, Runs, Ready};
+use model::Geometry;
 use model::Spare;
-use model::State;
 
-/// The whole pages of an identifier.
-fn count_id(array: &[u8], bs: &[u8], pages: usize, head: &[u16], next: &[u16], id: u32) -> usize
-    requires { ⌜ Linked 0 (now array) pages (now bs) (now head) (now next) ⌝ }
-    ensures { λ r. ⌜ r ≡ length (ofId id (scanIn (now (array .entry)) pages (now (bs .entry)))) ⌝ }
-{
-    let n = scan::slots(bs, pages);
-    let mut count: usize = 0;
-    let mut t = scan::slot_at(head, scan::bucket(id));
-    while t < n {
-        let e = scan::spare_at(array, bs, pages, t);
-        t = scan::slot_at(next, t);
-        if e.id != id {
-            continue;
-        }
-        count += 1;
-    }
-    count
-}
+/// A best version for each logical page.
+const LOGICAL: usize = Geometry::MAX_LOGICAL as usize;
 
-/// Whether a page with this spare area is a mark that commits its transaction.
-fn is_committed(array: &[u8], bs: &[u8], pages: usize, head: &[u16], next: &[u16], e: Spare) -> bool
-    requires { ⌜ Linked 0 (now array) pages (now bs) (now head) (now next) ⌝ }
-    ensures { λ r. ⌜ r ≡ spareCommits (scanIn (now (array .entry)) pages (now (bs .entry))) e ⌝ }
+/// Enters page k with this version, unless a better one was entered for its logical page.
+fn enter(map: &mut [u16], bests: &mut [u32], array: &[u8], k: u16, v: u32)
+    requires { ⌜ (k * 528 + 528 ≤ length (now array)) × ((entryIn (now array) k .lpn < length (now map)) × (length (now bests) ≡ length (now map))) ⌝ }
+    ensures { λ _. ⌜ best (now (map .exit)) (now (bests .exit)) ≡ enterBest (λ (e : Entry). v) (entryIn (now (array .entry)) k) (best (now (map .entry)) (now (bests .entry))) ⌝ }
 {
-    if e.cnt == 0 {
-        return false;
-    }
-    if e.id == 0 {
-        return e.cnt == 1;
-    }
-    wide(e.cnt) == count_id(array, bs, pages, head, next, e.id)
-}
-
-/// Whether slot s is a whole page that commits its transaction, of a version above lo and at most hi.
-fn is_due(
-    array: &[u8],
-    bs: &[u8],
-    pages: usize,
-    head: &[u16],
-    next: &[u16],
-    s: usize,
-    lo: u32,
-    hi: u32,
-) -> bool
-    requires { ⌜ Linked 0 (now array) pages (now bs) (now head) (now next) × (s < length (now bs) * pages) ⌝ }
-    ensures { λ r. ⌜ r ≡ slotDue (now (array .entry)) pages (now (bs .entry)) lo hi s ⌝ }
-{
-    if !scan::is_whole(next, s) {
-        return false;
-    }
-    let e = scan::spare_at(array, bs, pages, s);
-    if e.ver <= lo {
-        return false;
-    }
-    if hi < e.ver {
-        return false;
-    }
-    is_committed(array, bs, pages, head, next, e)
-}
-
-/// Enters the pages of an identifier in the map, in scan order.
-fn enter_id(
-    map: &mut [u16],
-    array: &[u8],
-    bs: &[u8],
-    pages: usize,
-    head: &[u16],
-    next: &[u16],
-    id: u32,
-)
-    requires { ⌜ Ready (now map) (now array) pages (now bs) (now head) (now next) ⌝ }
-    ensures { λ _. ⌜ now (map .exit) ≡ enter (now (map .entry)) (ofId id (scanIn (now (array .entry)) pages (now (bs .entry)))) ⌝ }
-{
-    let n = scan::slots(bs, pages);
-    let mut t = scan::slot_at(head, scan::bucket(id));
-    while t < n {
-        let e = scan::spare_at(array, bs, pages, t);
-        if e.id != id {
-            t = scan::slot_at(next, t);
-            continue;
-        }
-        let at = wide(e.lpn);
-        map[at] = scan::page_at(bs, pages, t) as u16;
-        t = scan::slot_at(next, t);
-    }
-}
-
-/// Enters the pages of the transaction that the whole page of slot s marks.
-fn enter_mark(
-    map: &mut [u16],
-    array: &[u8],
-    bs: &[u8],
-    pages: usize,
-    head: &[u16],
-    next: &[u16],
-    s: usize,
-)
-    requires { ⌜ Ready (now map) (now array) pages (now bs) (now head) (now next) × ((s < length (now bs) * pages) × (slotWhole (now array) pages (now bs) s ≡ true)) ⌝ }
-    ensures { λ _. ⌜ now (map .exit) ≡ enter (now (map .entry)) (pagesOf (scanIn (now (array .entry)) pages (now (bs .entry))) (slotEntry (now (array .entry)) pages (now (bs .entry)) s)) ⌝ }
-{
-    let e = scan::spare_at(array, bs, pages, s);
-    if e.id == 0 {
-        let at = wide(e.lpn);
-        map[at] = scan::page_at(bs, pages, s) as u16;
+    let page = flash::page_of(array, wide(k));
+    let l = wide(page::word16(page, Spare::LPN));
+    if v < bests[l] {
         return;
     }
-    enter_id(map, array, bs, pages, head, next, e.id);
+    bests[l] = v;
+    map[l] = k;
 }
 
-/// Enters the transactions of versions above lo and at most hi that are committed, in scan order.
-fn enter_due(
+/// Enters the pages of a run with its version.
+fn enter_run(map: &mut [u16], bests: &mut [u32], array: &[u8], run: &[u16], v: u32)
+    requires { ⌜ Enterable (now array) (now run) (now map) (now bests) ⌝ }
+    ensures { λ _. ⌜ best (now (map .exit)) (now (bests .exit)) ≡ bestOf (λ (e : Entry). v) (entriesIn (now (array .entry)) (now (run .entry))) (best (now (map .entry)) (now (bests .entry))) ⌝ }
+{
+    let mut i: usize = 0;
+    while i < run.len() {
+        enter(map, bests, array, run[i], v);
+        i += 1;
+    }
+}
+
+/// Enters lone pages, each with its own version.
+fn enter_lone(map: &mut [u16], bests: &mut [u32], array: &[u8], lone: &[u16])
+    requires { ⌜ Enterable (now array) (now lone) (now map) (now bests) ⌝ }
+    ensures { λ _. ⌜ best (now (map .exit)) (now (bests .exit)) ≡ bestOf (λ (e : Entry). e .ver) (entriesIn (now (array .entry)) (now (lone .entry))) (best (now (map .entry)) (now (bests .entry))) ⌝ }
+{
+    let mut i: usize = 0;
+    while i < lone.len() {
+        let k = lone[i];
+        let v = page::word32(flash::page_of(array, wide(k)), Spare::VER);
+        enter(map, bests, array, k, v);
+        i += 1;
+    }
+}
+
+/// Where the run of the identifier of page i of the list ends.
+fn run_end(array: &[u8], order: &[u16], i: usize) -> usize
+    requires { ⌜ Pages (length (now array)) (now order) × (i < length (now order)) ⌝ }
+    ensures { λ r. ⌜ (r ≡ i + runOf (now (array .entry)) (keyAt (now (array .entry)) 516 (getD (now (order .entry)) i 0)) (drop i (now (order .entry)))) × ((i < r) × (r ≤ length (now (order .entry)))) ⌝ }
+{
+    let id = id_of(array, order[i]);
+    let mut j = i + 1;
+    while j < order.len() {
+        if id_of(array, order[j]) != id {
+            return j;
+        }
+        j += 1;
+    }
+    j
+}
+
+/// The identifier of page k.
+fn id_of(array: &[u8], k: u16) -> u32
+    requires { ⌜ k * 528 + 528 ≤ length (now array) ⌝ }
+    ensures { λ r. ⌜ r ≡ keyAt (now (array .entry)) 516 k ⌝ }
+{
+    page::word32(flash::page_of(array, wide(k)), Spare::ID)
+}
+
+/// The version of a run: that of its mark, if the mark counts its pages, else 0.
+fn run_version(array: &[u8], run: &[u16]) -> u32
+    requires { ⌜ Pages (length (now array)) (now run) ⌝ }
+    ensures { λ r. ⌜ r ≡ runVersion (now (array .entry)) (now (run .entry)) ⌝ }
+{
+    let mut v: u32 = 0;
+    let mut i: usize = 0;
+    while i < run.len() {
+        let page = flash::page_of(array, wide(run[i]));
+        i += 1;
+        if wide(page::word16(page, Spare::CNT)) != run.len() {
+            continue;
+        }
+        v = higher(v, page::word32(page, Spare::VER));
+    }
+    v
+}
+
+/// Enters the pages of changes, run after run.
+fn enter_runs(map: &mut [u16], bests: &mut [u32], array: &[u8], order: &[u16])
+    requires { ⌜ Enterable (now array) (now order) (now map) (now bests) × Runs (now array) (now order) ⌝ }
+    ensures { λ _. ⌜ best (now (map .exit)) (now (bests .exit)) ≡ bestOf (rankOf (entriesIn (now (array .entry)) (now (order .entry)))) (entriesIn (now (array .entry)) (now (order .entry))) (best (now (map .entry)) (now (bests .entry))) ⌝ }
+{
+    let mut i: usize = 0;
+    while i < order.len() {
+        let j = run_end(array, order, i);
+        let v = run_version(array, &order[i..j]);
+        enter_run(map, bests, array, &order[i..j], v);
+        i = j;
+    }
+}
+
+/// Enters the pages of changes, run after run, and then the lone pages of the scan.
+fn enter_all(
     map: &mut [u16],
+    bests: &mut [u32],
     array: &[u8],
     bs: &[u8],
     pages: usize,
-    head: &[u16],
-    next: &[u16],
-    lo: u32,
-    hi: u32,
+    changes: &[u16],
+    notes: &[u8],
+    other: &mut [u16],
 )
-    requires { ⌜ Ready (now map) (now array) pages (now bs) (now head) (now next) ⌝ }
-    ensures { λ _. ⌜ now (map .exit) ≡ enter (now (map .entry)) (dueIn (scanIn (now (array .entry)) pages (now (bs .entry))) lo hi (scanIn (now (array .entry)) pages (now (bs .entry)))) ⌝ }
+    requires { ⌜ Ready (now map) (now array) pages (now bs) (now changes) (now notes) (now other) × (length (now bests) ≡ length (now map)) ⌝ }
+    ensures { λ _. ⌜ best (now (map .exit)) (now (bests .exit)) ≡ bestOf (λ (e : Entry). e .ver) (entriesIn (now (array .entry)) (noted (now (array .entry)) 3 3 (listed pages (now (bs .entry))))) (bestOf (rankOf (entriesIn (now (array .entry)) (now (changes .entry)))) (entriesIn (now (array .entry)) (now (changes .entry))) (best (now (map .entry)) (now (bests .entry)))) ⌝ }
 {
-    let n = scan::slots(bs, pages);
-    let mut s: usize = 0;
-    while s < n {
-        if !is_due(array, bs, pages, head, next, s, lo, hi) {
-            s += 1;
-            continue;
-        }
-        enter_mark(map, array, bs, pages, head, next, s);
-        s += 1;
-    }
+    enter_runs(map, bests, array, changes);
+    scan::list(bs, pages, other);
+    let n = scan::pick(other, notes, scan::LONE, scan::LONE);
+    enter_lone(map, bests, array, &other[..n]);
 }
 
-/// Whether the versions of the marks rise in scan order.
-fn marks_rise(array: &[u8], bs: &[u8], pages: usize, next: &[u16]) -> bool
-    requires { ⌜ Classed (now array) pages (now bs) (now next) ⌝ }
-    ensures { λ r. ⌜ r ≡ riseFrom 0 (scanIn (now (array .entry)) pages (now (bs .entry))) ⌝ }
-{
-    let n = scan::slots(bs, pages);
-    let mut last: u32 = 0;
-    let mut s: usize = 0;
-    while s < n {
-        if !scan::is_whole(next, s) {
-            s += 1;
-            continue;
-        }
-        let e = scan::spare_at(array, bs, pages, s);
-        if e.cnt == 0 {
-            s += 1;
-            continue;
-        }
-        if e.ver <= last {
-            return false;
-        }
-        last = e.ver;
-        s += 1;
-    }
-    true
-}
-
-/// v where it is above the last and below the least so far, else that.
-fn nearer(last: u32, v: u32, least: u32) -> u32
-    ensures { λ r. ⌜ r ≡ nearest last v least ⌝ }
-{
-    if v <= last {
-        return least;
-    }
-    if v < least {
-        return v;
-    }
-    least
-}
-
-/// The least version above the last among the whole pages, or 0xFFFFFFFF.
-fn least_above(array: &[u8], bs: &[u8], pages: usize, next: &[u16], last: u32) -> u32
-    requires { ⌜ Classed (now array) pages (now bs) (now next) ⌝ }
-    ensures { λ r. ⌜ r ≡ leastAbove last (scanIn (now (array .entry)) pages (now (bs .entry))) ⌝ }
-{
-    let n = scan::slots(bs, pages);
-    let mut least = State::NO_NUMBER;
-    let mut s: usize = 0;
-    while s < n {
-        if !scan::is_whole(next, s) {
-            s += 1;
-            continue;
-        }
-        let e = scan::spare_at(array, bs, pages, s);
-        least = nearer(last, e.ver, least);
-        s += 1;
-    }
-    least
-}
-
-/// Enters the committed transactions above the floor, one version after the other.
-fn enter_sorted(
-    map: &mut [u16],
-    array: &[u8],
-    bs: &[u8],
-    pages: usize,
-    head: &[u16],
-    next: &[u16],
-    floor: u32,
-    highest: u32,
-)
-    requires { ⌜ Ready (now map) (now array) pages (now bs) (now head) (now next) × (highest ≡ top (scanIn (now array) pages (now bs))) ⌝ }
-    ensures { λ _. ⌜ now (map .exit) ≡ redone floor (scanIn (now (array .entry)) pages (now (bs .entry))) (now (map .entry)) ⌝ }
-{
-    let mut last = floor;
-    while last < highest {
-        let v = least_above(array, bs, pages, next, last);
-        enter_due(map, array, bs, pages, head, next, last, v);
-        last = v;
-    }
-}
-
-/// Enters the committed transactions above the floor by rising version; the highest version of the scan is given.
+/// Enters the committed transactions above the floor by rising version; the highest version of the scan is given, and its pages of changes
+/// sorted by TxID. `other` is room for the scan's pages.
 pub fn redo(
     map: &mut [u16],
     array: &[u8],
     bs: &[u8],
     pages: usize,
-    head: &[u16],
-    next: &[u16],
+    changes: &[u16],
+    notes: &[u8],
+    other: &mut [u16],
     floor: u32,
     highest: u32,
 )
-    requires { ⌜ Ready (now map) (now array) pages (now bs) (now head) (now next) × (highest ≡ top (scanIn (now array) pages (now bs))) ⌝ }
+    requires { ⌜ Ready (now map) (now array) pages (now bs) (now changes) (now notes) (now other) × (highest ≡ top (scanIn (now array) pages (now bs))) ⌝ }
     ensures { λ _. ⌜ now (map .exit) ≡ redone floor (scanIn (now (array .entry)) pages (now (bs .entry))) (now (map .entry)) ⌝ }
 {
     if highest <= floor {
         return;
     }
-    if marks_rise(array, bs, pages, next) {
-        enter_due(map, array, bs, pages, head, next, floor, highest);
-        return;
+    let l = map.len();
+    let mut bests = [floor + 1; LOGICAL];
+    enter_all(
+        map,
+        &mut bests[..l],
+        array,
+        bs,
+        pages,
+        changes,
+        notes,
+        other,
+    );
+}
+
+/// The higher of two versions.
+pub fn higher(v: u32, w: u32) -> u32
+    ensures { λ r. ⌜ r ≡ max v w ⌝ }
+{
+    if v < w {
+        return w;
     }
-    enter_sorted(map, array, bs, pages, head, next, floor, highest);
+    v
 }
 
 /// A number of two bytes as a number of the array's size.

@@ -12,7 +12,7 @@ use Rattle.model.specs.Geometry.{dataBlock}
 use Rattle.model.specs.Zones.{availableOf, unavailableOf, freeOf, zonesOf, freeIndex, freed}
 use Rattle.model.specs.declared.Geometry.{Geometry}
 use Rattle.model.specs.declared.Zones.{Zones}
-use Rattle.arrays.specs.Tests.{all-nil, all-cons, all-append, all-append-left, all-append-right, find-le}
+use Rattle.arrays.specs.Tests.{all-nil, all-cons, all-append, all-append-left, all-append-right, find-le, length-up, up-more}
 use Rattle.arrays.specs.Ranges.{block-is}
 use Rattle.blocks.specs.declared.Blocks.{Blocks}
 use Rattle.blocks.specs.Blocks.{blocksOf, listOf}
@@ -51,20 +51,6 @@ all-without p i xs h =
 pub length-insert : (b : ℕ) (xs : List ℕ) → length (insert b xs) ≡ length xs + 1
 unfolding insert
 length-insert b xs = let h = find-le (ltb b) xs in simp (length-append, length-take, length-drop) (omega arith)
-
--- ---- k, k + 1, ..
-pub length-up : (k n : ℕ) → length (upFrom k n) ≡ n
-unfolding upFrom
-length-up k zero = refl
-length-up k (suc n) = ap suc (length-up (suc k) n)
-
-pub up-more : (k n : ℕ) → upFrom k (n + 1) ≡ upFrom k n ++ ((k + n) ∷ [])
-unfolding upFrom
-up-more k zero = let e : k ≡ k + 0 = omega arith in ap (λ (x : ℕ). x ∷ []) e
-up-more k (suc n) =
-    let s : suc n + 1 ≡ suc (n + 1) = omega arith in
-    let e : suc k + n ≡ k + suc n = omega arith in
-    rw (s, ← e) (ap (λ (l : List ℕ). k ∷ l) (up-more (suc k) n))
 
 -- the data blocks are data blocks
 up-data : (g : Geometry) (k n : ℕ) → 2 ≤ k → k + n ≤ g .blocks → all (dataBlock g) (upFrom k n) ≡ true

@@ -14,14 +14,14 @@ use Rattle.model.specs.Zones.{zonesOf, freeIndex, pastBlock, takeOne, refill, z
 use Rattle.model.specs.Zones as zones
 use Rattle.model.specs.declared.Geometry.{Geometry}
 use Rattle.model.specs.declared.Zones.{Zones}
-use Rattle.arrays.specs.Tests.{all-at}
+use Rattle.arrays.specs.Tests.{all-at, length-up}
 use Rattle.arrays.specs.Ranges.{geometry-in, block-most}
 use Rattle.blocks.specs.declared.Blocks.{Blocks}
 use Rattle.blocks.specs.Blocks.{blocksOf, listOf}
 use Rattle.blocks.proofs.Kept.{kept-list, kept-count}
 use Rattle.refill.specs.declared.Taken.{Taken}
 use Rattle.refill.specs.Taking.{takenOf, listsOf, mayTake, Fits, Kept}
-use Rattle.refill.proofs.Free.{index-inside, length-without, all-without, length-up, data-blocks}
+use Rattle.refill.proofs.Free.{index-inside, length-without, all-without, data-blocks}
 
 -- ---- lists as they are kept
 pub lists-taken : (x : zones.Taken) → listsOf (takenOf x) ≡ x

@@ -1,3 +1,6 @@
-pub mod Between
-pub mod Chains
-pub mod Good
+pub mod Numbers
+pub mod Listing
+pub mod Visiting
+pub mod Loops
+pub mod Picked
+pub mod Judging

@@ -1,2 +1,3 @@
-pub mod Slots
-pub mod Linked
+pub mod Taken
+pub mod Notes
+pub mod Judged

@@ -9,11 +9,12 @@ use Rattle.model.specs.Lists.{upFrom}
 use Rattle.model.specs.Geometry.{dataBlock}
 use Rattle.model.specs.Zones.{usedIn, scanOf, zonesOf, zonesTaken, zonesOk, Taken, refill, formatZones}
 use Rattle.model.specs.declared.Geometry.{Geometry}
+use Rattle.arrays.specs.Tests.{length-up}
 use Rattle.arrays.specs.Ranges.{block-is}
 use Rattle.arrays.specs.Scan.{Blank, scan-blank}
 use Rattle.arrays.specs.ZoneLists.{zonesOf-available, zonesOf-unavailable, zonesOf-free, zonesOf-ok}
 use Rattle.scanlog.specs.Occ.{occ, occ-append}
-use Rattle.scanlog.specs.Rising.{rising-sub, up-once, up-in, up-rising, up-length}
+use Rattle.scanlog.specs.Rising.{rising-sub, up-once, up-in, up-rising}
 use Rattle.scanlog.specs.Shape.{Shape, shape-ok}
 use Rattle.scanlog.specs.Take.{Took, took-refill}
 use Rattle.scanlog.specs.Order.{is-each, blank-order}
@@ -50,7 +51,7 @@ module _ (g : Geometry) (big : 2 < g .blocks) where
       let f = last .free in
       let n : Shape g (length a) (length {A = ℕ} []) (length f) a [] f (last .pointer)
       = record {
-        sum = omega (arith, took .sum, ap length (took .available), up-length 2 (g .blocks - 2));
+        sum = omega (arith, took .sum, ap length (took .available), length-up 2 (g .blocks - 2));
         few = took .few (omega arith);
         blocks = λ c h. first-block c (omega (arith, each c, occ-append c a f));
         distinct = λ c. omega (arith, each c, occ-append c a f, up-once c 2 (g .blocks - 2));

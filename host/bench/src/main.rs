@@ -1,6 +1,9 @@
 //! Benchmarks: the proved layer beside the plain Rust one, in one run on the same arrays. Each time is the least of several rounds taken in
 //! turn. What is missed is said once, at the end. Layers that leave different stores end the run with an error.
 
+#[path = "../../tests/common/array.rs"]
+mod array;
+mod arrays;
 #[allow(dead_code)] // the tests read through it too
 #[path = "../../tests/common/layer.rs"]
 mod layer;
@@ -57,30 +60,32 @@ fn commands(table: &mut Table) {
     table.hold(table::meets(highest, 1.0), &format!("calls take {lowest:.2} to {highest:.2} times the time of plain Rust, goal 1.0: {why}"));
 }
 
-fn rescan(s: &mut Store, g: Geometry) -> u8 {
-    plain::rescan(&s.array, &mut s.map, &s.hold, &mut s.state, g.blocks, g.pages, g.logical)
-}
+/// A way to recover: by the proved layer, by the plain one, or by the program that rescans.
+type Way = fn(&mut Store, Geometry) -> u8;
+const PROVED: Way = |s, g| Layer::Proved.call(s, &Call::Recover(g));
+const PLAIN: Way = |s, g| Layer::Plain.call(s, &Call::Recover(g));
+const RESCAN: Way = |s, g| plain::rescan(&s.array, &mut s.map, &s.hold, &mut s.state, g.blocks, g.pages, g.logical);
 
-/// The least time of a recovery from nothing but the array: by the proved layer, by the plain one, and by the program that rescans.
-fn recovery(g: Geometry, s: &Store, rounds: usize) -> [f64; 3] {
-    let ways: [fn(&mut Store, Geometry) -> u8; 3] =
-        [|s, g| Layer::Proved.call(s, &Call::Recover(g)), |s, g| Layer::Plain.call(s, &Call::Recover(g)), rescan];
-    let mut least = [f64::MAX; 3];
+/// The least time of a recovery from nothing but the array, of each array in each way.
+fn recovery<const N: usize>(g: Geometry, arrays: &[Vec<u8>], ways: [Way; N], rounds: usize) -> Vec<[f64; N]> {
+    let mut least = vec![[f64::MAX; N]; arrays.len()];
     for round in 0..rounds {
-        let mut left: Vec<Store> = Vec::new();
-        for (i, way) in ways.into_iter().enumerate() {
-            // rescanning a large array takes a second
-            if i == 2 && round > 400 / g.blocks as usize {
-                continue;
+        for (array, least) in arrays.iter().zip(&mut least) {
+            let mut left: Vec<Store> = Vec::new();
+            for (way, least) in ways.into_iter().zip(least) {
+                // what takes long is tried a few times only
+                if round > 2 && *least > 20e6 {
+                    continue;
+                }
+                let mut dark = Store { array: array.clone(), map: vec![7; g.logical as usize], hold: vec![9; HOLD], state: vec![0; STATE] };
+                let before = Instant::now();
+                let answer = way(std::hint::black_box(&mut dark), g);
+                *least = least.min(before.elapsed().as_nanos() as f64);
+                assert_eq!(answer, 0);
+                left.push(dark);
             }
-            let mut dark = Store { array: s.array.clone(), map: vec![7; s.map.len()], hold: vec![9; HOLD], state: vec![0; STATE] };
-            let before = Instant::now();
-            let answer = way(std::hint::black_box(&mut dark), g);
-            least[i] = least[i].min(before.elapsed().as_nanos() as f64);
-            assert_eq!(answer, 0);
-            left.push(dark);
+            assert!(left.iter().all(|l| *l == left[0]), "the same array was recovered differently");
         }
-        assert!(left.iter().all(|l| *l == left[0]), "the same array was recovered differently");
     }
     least
 }
@@ -94,7 +99,7 @@ fn scanned(s: &Store) -> usize {
 fn recover(table: &mut Table) {
     let measured = |g: Geometry, blocks| {
         let s = session::listed(g, blocks);
-        (scanned(&s), recovery(g, &s, if g.blocks > 8 { 41 } else { 401 }))
+        (scanned(&s), recovery(g, &[s.array], [PROVED, PLAIN, RESCAN], if g.blocks > 8 { 41 } else { 401 })[0])
     };
     let mut lines = Vec::new();
     let mut growth = Vec::new();
@@ -116,6 +121,22 @@ fn recover(table: &mut Table) {
     println!("\n| {}: pages scanned | proved | ns a page |\n|---|---|---|", name(g));
     for (pages, [proved, ..]) in growth {
         println!("| {pages} | {:.1} µs | {:.0} |", proved / 1e3, proved / pages as f64);
+    }
+}
+
+/// Full arrays of many kinds: none may take much longer than the first.
+fn recover_any(table: &mut Table) {
+    const GOAL: f64 = 1.7;
+    let g = GEOMETRIES[2];
+    let arrays = arrays::KINDS.map(|(_, kind)| arrays::full(g, kind));
+    let times = recovery(g, &arrays, [PROVED, PLAIN], 41);
+    let pages = (g.blocks - 2) * g.pages;
+    println!("\n| recover of any array, {}: {pages} pages scanned | proved | plain Rust | times | of the first | goal |", name(g));
+    println!("|---|---|---|---|---|---|");
+    for ((what, _), [proved, plain]) in arrays::KINDS.iter().zip(&times) {
+        let of = proved / times[0][0];
+        println!("| {what} | {} | {} | {:.2} | {of:.2} | {GOAL:.1} |", table::time(*proved), table::time(*plain), proved / plain);
+        table.hold(table::meets(of, GOAL), &format!("recover of any array: {what}: {of:.2} of the first, goal {GOAL:.1}"));
     }
 }
 
@@ -192,6 +213,7 @@ fn main() {
     }
     if wanted("recover") {
         recover(&mut table);
+        recover_any(&mut table);
     }
     if wanted("wear") {
         wear();

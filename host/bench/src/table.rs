@@ -52,7 +52,7 @@ impl Table {
     }
 }
 
-fn time(ns: f64) -> String {
+pub fn time(ns: f64) -> String {
     if ns < 10_000.0 {
         format!("{ns:.0} ns")
     } else if ns < 10_000_000.0 {

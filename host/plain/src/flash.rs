@@ -3,8 +3,9 @@ use crate::page::{is_erased, Page};
 use crate::PAGE;
 use std::ops::Range;
 
-/// The most pages of a block.
+/// The most pages of a block, and the most logical pages.
 pub const MOST_PAGES: usize = 64;
+pub const MOST_LOGICAL: usize = 1024;
 
 /// Blocks, pages in each, and logical pages.
 #[derive(Clone, Copy, PartialEq, Eq)]
@@ -22,7 +23,7 @@ impl Geometry {
     pub fn in_range(self) -> bool {
         (8..=128).contains(&self.blocks)
             && (8..=MOST_PAGES).contains(&self.pages)
-            && (1..=1024).contains(&self.logical)
+            && (1..=MOST_LOGICAL).contains(&self.logical)
             && self.logical <= (self.blocks - 6) * self.pages
     }
 

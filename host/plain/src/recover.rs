@@ -1,12 +1,11 @@
 //! Recovery: the newest complete checkpoint, and what was committed after it.
 use crate::checkpoint::{spare, ENTRIES};
-use crate::flash::{pages, Geometry};
+use crate::flash::{pages, Geometry, MOST_LOGICAL};
 use crate::frame;
 use crate::page::{is_whole, Page, Spare};
 use crate::state::State;
 use crate::zones::Zones;
 use crate::{ensure, Answer, Outcome, Refusal, DATA, LAST, STATE, UNMAPPED};
-use std::ops::Range;
 
 /// What a scan finds, and how it is redone.
 pub trait Scan<'a>: Sized {
@@ -69,45 +68,60 @@ struct Entry {
     count: u16,
     lpn: u16,
     ppn: u16,
-    /// Its place in scan order.
-    order: u16,
 }
 
-/// A mark whose transaction is in the log: whether it is committed, and which entries are its pages.
-struct Mark {
-    version: u32,
-    committed: bool,
-    pages: Range<usize>,
-}
-
-/// The whole pages, those of one transaction together and in scan order, and the marks by rising version.
+/// The whole pages, those of one transaction together and in scan order, and the highest version.
 pub struct Log {
     entries: Vec<Entry>,
-    marks: Vec<Mark>,
+    highest: u32,
+}
+
+impl Log {
+    fn transactions(&self) -> impl Iterator<Item = &[Entry]> {
+        // each page of TxID 0 is a transaction by itself
+        self.entries.chunk_by(|a, b| a.id == b.id && a.id != 0)
+    }
 }
 
 impl<'a> Scan<'a> for Log {
     fn scan(pages: &'a [Page], g: Geometry, zones: Zones<'a>) -> Result<Log, Refusal> {
-        let mut entries = Vec::with_capacity(g.pages * (zones.unavailable.len() + zones.available.len()));
+        let room = g.pages * (zones.unavailable.len() + zones.available.len());
+        let (mut entries, mut versions) = (Vec::with_capacity(room), Vec::with_capacity(room));
         for (ppn, page) in zones.scan(pages, g).filter(|(_, p)| is_whole(p)) {
             let s = Spare::of(page);
             ensure(good(s, g), Refusal::BadPage)?;
-            let order = entries.len() as u16;
-            entries.push(Entry { id: s.id, version: s.version, count: s.count, lpn: s.lpn, ppn: ppn as u16, order });
+            entries.push(Entry { id: s.id, version: s.version, count: s.count, lpn: s.lpn, ppn: ppn as u16 });
+            if s.version != 0 {
+                versions.push(s.version);
+            }
         }
-        entries.sort_unstable_by_key(|e| (e.id, e.order));
-        let marks = marks(&entries)?;
-        Ok(Log { entries, marks })
+        versions.sort_unstable();
+        ensure(versions.windows(2).all(|w| w[0] != w[1]), Refusal::BadPage)?;
+        // stable: the pages of one transaction stay in scan order
+        entries.sort_by_key(|e| e.id);
+        let log = Log { entries, highest: versions.last().copied().unwrap_or(0) };
+        ensure(log.transactions().all(|t| t.iter().filter(|p| p.count != 0).count() <= 1), Refusal::BadPage)?;
+        Ok(log)
     }
 
     fn highest(&self) -> u32 {
-        self.marks.last().map_or(0, |m| m.version)
+        self.highest
     }
 
     fn redo(&self, floor: u32, map: &mut [u16]) {
-        for mark in self.marks.iter().filter(|m| m.committed && m.version > floor) {
-            for page in &self.entries[mark.pages.clone()] {
-                map[usize::from(page.lpn)] = page.ppn;
+        // the version that each logical page was entered with: a lower one no longer enters
+        let mut entered = [0; MOST_LOGICAL];
+        for pages in self.transactions() {
+            // 0 where it is not committed
+            let version = pages.iter().find(|p| usize::from(p.count) == pages.len()).map_or(0, |mark| mark.version);
+            if version <= floor {
+                continue;
+            }
+            for page in pages {
+                let lpn = usize::from(page.lpn);
+                if version >= entered[lpn] {
+                    (entered[lpn], map[lpn]) = (version, page.ppn);
+                }
             }
         }
     }
@@ -122,25 +136,6 @@ fn good(s: Spare, g: Geometry) -> bool {
         && s.id <= LAST
         && s.version <= LAST
         && (s.id != 0 || s.count == 1)
-}
-
-/// The marks of a log's entries; refusal 4 where a transaction has two or a version is repeated.
-fn marks(entries: &[Entry]) -> Result<Vec<Mark>, Refusal> {
-    let mut marks = Vec::with_capacity(entries.len());
-    let mut from = 0;
-    // each page of TxID 0 is a transaction by itself
-    for pages in entries.chunk_by(|a, b| a.id == b.id && a.id != 0) {
-        let to = from + pages.len();
-        let before = marks.len();
-        for mark in pages.iter().filter(|p| p.count != 0) {
-            marks.push(Mark { version: mark.version, committed: usize::from(mark.count) == pages.len(), pages: from..to });
-        }
-        ensure(marks.len() <= before + 1, Refusal::BadPage)?;
-        from = to;
-    }
-    marks.sort_unstable_by_key(|m| m.version);
-    ensure(marks.windows(2).all(|w| w[0].version != w[1].version), Refusal::BadPage)?;
-    Ok(marks)
 }
 
 /// No list but a bit for each whole page: every question is answered by going through the spare areas again.

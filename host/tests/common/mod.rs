@@ -1,8 +1,11 @@
-//! What the tests share: the two layers, random numbers, and cuts.
+//! What the tests share: the two layers, random numbers, arrays made up, and cuts.
 #![allow(dead_code)]
+mod array;
 mod layer;
 
-use bokuhira::{Call, Geometry, Store, PAGE};
+#[allow(unused_imports)]
+pub use array::{checkpointed, put, scan_order, spare, whole_page, zone_data};
+use bokuhira::{Call, Geometry, State, Store, DATA, PAGE};
 #[allow(unused_imports)]
 pub use layer::{kind, Layer, LAYERS};
 use std::io::Write;
@@ -53,6 +56,36 @@ impl Met {
     }
 }
 
+/// A call on both layers, from the same world. The world becomes what it leaves.
+pub fn compare(world: &mut Store, call: &Call) -> u8 {
+    let before = world.clone();
+    let mut plain = world.clone();
+    let answer = Layer::Proved.call(world, call);
+    assert_eq!(Layer::Plain.call(&mut plain, call), answer, "plain and proved answer otherwise to {call:?}: {}", told(&before));
+    assert!(*world == plain, "after {call:?}, {answer}: {}\n  proved {}\n  plain  {}", told(&before), told(world), told(&plain));
+    if answer != 0 && answer != 255 {
+        assert!(*world == before, "{call:?} was refused with {answer} and changed something");
+    }
+    if let Call::Read(lpn) = call {
+        let (part, other) = (Layer::Proved.read(world, *lpn), Layer::Plain.read(world, *lpn));
+        assert_eq!(part.map(<[u8]>::as_ptr), other.map(<[u8]>::as_ptr), "the parts of a read");
+        assert_eq!(part.map_or_else(|n| (n, 0), |p| (0, p.len())), (answer, if answer == 0 { DATA } else { 0 }));
+    }
+    answer
+}
+
+/// What a message tells of a world.
+pub fn told(world: &Store) -> String {
+    format!(
+        "array of {}, map {:?}, hold of {}, state of {}: {:?}",
+        world.array.len(),
+        world.map,
+        world.hold.len(),
+        world.state.len(),
+        State::decode(&world.state)
+    )
+}
+
 /// Random numbers by splitmix64: a seed always gives the same ones.
 pub struct Rng(u64);
 
@@ -80,6 +113,12 @@ impl Rng {
 
     pub fn pick<'a, T>(&mut self, from: &'a [T]) -> &'a T {
         &from[self.below(from.len())]
+    }
+
+    pub fn shuffle<T>(&mut self, items: &mut [T]) {
+        for i in (1..items.len()).rev() {
+            items.swap(i, self.below(i + 1));
+        }
     }
 
     pub fn bytes(&mut self, n: usize) -> Vec<u8> {
@@ -118,26 +157,6 @@ pub fn lost_state(rng: &mut Rng) -> Vec<u8> {
         }
     }
     state
-}
-
-/// A page's 528 bytes with these data and spare bytes, made whole.
-pub fn whole_page(data: &[u8], spare: &[u8; 14]) -> Vec<u8> {
-    let mut page = [data, spare].concat();
-    let zeros: u32 = page.iter().map(|b| b.count_zeros()).sum();
-    page.extend((zeros as u16).to_le_bytes());
-    page
-}
-
-/// The 14 bytes of a spare area before Zeros.
-pub fn spare(lpn: u16, count: u16, id: u32, version: u32, kind: u8, reserved: u8) -> [u8; 14] {
-    let mut s = [0; 14];
-    s[..2].copy_from_slice(&lpn.to_le_bytes());
-    s[2..4].copy_from_slice(&count.to_le_bytes());
-    s[4..8].copy_from_slice(&id.to_le_bytes());
-    s[8..12].copy_from_slice(&version.to_le_bytes());
-    s[12] = kind;
-    s[13] = reserved;
-    s
 }
 
 /// A store formatted by the proved library.

@@ -10,12 +10,12 @@ page-of-requires c κs = search needs
 classify-requires : tie.Need-classify-requires
 classify-requires c κs = search needs
 
-whole-requires : tie.Need-whole-requires
-whole-requires c κs = search needs
+is-whole-requires : tie.Need-is-whole-requires
+is-whole-requires c κs = search needs
 
 returns : tie.Need-returns
 unfolding wholeAt
-returns c = rw (c .whole .ensures, c .before .classify .ensures, c .before .before .page-of .ensures .0)
+returns c = rw (c .is-whole .ensures, c .before .classify .ensures, c .before .before .page-of .ensures .0)
 
 pub is-whole-spec : {M : Type 1} → statement M
-is-whole-spec = tie.close (tie.spec page-of-requires classify-requires whole-requires returns)
+is-whole-spec = tie.close (tie.spec page-of-requires classify-requires is-whole-requires returns)

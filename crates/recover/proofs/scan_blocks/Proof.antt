@@ -1,101 +1,104 @@
--- `recover::scan_blocks` meets its contract: the pages are linked, refusal 4 passes them or not, and what is committed is entered. Assumes nothing.
+-- `recover::scan_blocks` meets its contract: the lists are as long as the scan. Assumes nothing.
+use mathlib.Core.Path.{_≡_, refl, sym, ap, _∙_}
+use Prim.Native.Nat.{ℕ, _≤_}
+use native.Mathlib.Omega.{arith}
+use lib.ListN.{length, take, replicate, length-replicate}
+use lib.Seq.{length-take-le}
+use Rattle.recover.proofs.Plans.{blocks-in}
 use borrow.Author.Needs.{needs}
-use borrow.Author.Tests.{not-true, not-false}
-use Rattle.model.specs.Zones.{scanIn}
-use Rattle.arrays.specs.Ranges.{geometry-in}
-use Rattle.scan.proofs.Chains.{linked-classed}
-use Rattle.recover.proofs.Plans.{link-start, redo-ready, scan-refused, scan-passed}
 use Rattle.recover.proofs.scan_blocks.Statement.{statement}
 use Rattle.recover.proofs.scan_blocks.Tie as tie
+use Rattle.scan.proofs.slots.Reads as slots-reads
 
-cast-pages : tie.Need-cast-pages
-cast-pages c = search needs
+-- the first k of n zeros
+first-of : (n k : ℕ) → k ≤ n → length (take k (replicate {A = ℕ} n 0)) ≡ k
+first-of n k h = length-take-le k (replicate n 0) (omega (arith, length-replicate {A = ℕ} n 0))
+
+cast-slots : tie.Need-cast-slots
+cast-slots c = search needs
 
 slots-requires : tie.Need-slots-requires
-slots-requires c κs = let h = c .before .before .before .before .before .pre in (h .blocks .few, geometry-in (c .before .before .before .before .before .args .g) (h .shape) .pages-most)
+slots-requires c κs = let a = c .before .before .before .before .before .args in let b = blocks-in (a .g) (a .array .now) (a .map .now) (a .bs .now) (a .entries .now) (c .before .before .before .before .before .pre) in (b .within .few, b .most)
 
-cast-n : tie.Need-cast-n
-cast-n c = search needs
+array-borrow-prefix-order : tie.Need-array-borrow-prefix-order
+array-borrow-prefix-order c = search needs
 
-slice-aggregate-link : tie.Need-slice-aggregate-link
-slice-aggregate-link c = search needs
+slice-aggregate-scan-pages : tie.Need-slice-aggregate-scan-pages
+slice-aggregate-scan-pages c = sym (first-of 512 (c .before .before .before .slots .result) (c .before .before .if1 .taken))
 
-slice-aggregate-link-2 : tie.Need-slice-aggregate-link-2
-slice-aggregate-link-2 c = search needs
+array-borrow-prefix-other : tie.Need-array-borrow-prefix-other
+array-borrow-prefix-other c = search needs
 
-link-requires : tie.Need-link-requires
-link-requires c κs =
-    let a = c .before .before .before .before .before .before .before .before .args in
-    link-start (a .g) (a .array .now) (a .map .now) (a .bs .now) (a .entries .now) (c .before .before .before .before .before .before .before .before .pre) (c .before .before .slots .result) (c .before .before .slots .ensures .0)
+slice-aggregate-scan-pages-2 : tie.Need-slice-aggregate-scan-pages-2
+slice-aggregate-scan-pages-2 c = sym (first-of 512 (c .before .before .before .before .slots .result) (c .before .before .before .if1 .taken))
 
-slice-aggregate-pages-good : tie.Need-slice-aggregate-pages-good
-slice-aggregate-pages-good c = search needs
+array-borrow-prefix-notes : tie.Need-array-borrow-prefix-notes
+array-borrow-prefix-notes c = search needs
 
-slice-aggregate-pages-good-2 : tie.Need-slice-aggregate-pages-good-2
-slice-aggregate-pages-good-2 c = search needs
+slice-aggregate-scan-pages-3 : tie.Need-slice-aggregate-scan-pages-3
+slice-aggregate-scan-pages-3 c = sym (first-of 512 (c .before .before .before .before .before .slots .result) (c .before .before .before .before .if1 .taken))
 
-pages-good-requires : tie.Need-pages-good-requires
-pages-good-requires c κs = search needs
-
-returns : tie.Need-returns
-returns c =
-    let a = c .before .before .before .before .before .before .before .before .before .before .before .before .before .before .before .args in
-    scan-refused (a .g .logical) (scanIn (a .array .now) (a .g .pages) (a .bs .now)) (a .floor) (a .entries .now) (a .map .now)
-    (c .before .pages-good .result) (c .before .pages-good .ensures) (not-true _ (c .if1 .taken))
-
-slice-aggregate-top-version : tie.Need-slice-aggregate-top-version
-slice-aggregate-top-version c = search needs
-
-top-version-requires : tie.Need-top-version-requires
-top-version-requires c κs = let a = c .before .before .before .before .before .before .before .before .before .before .before .before .before .before .before .before .args in linked-classed (a .array .now) (a .g .pages) (a .bs .now) _ _ (c .before .before .before .before .before .before .before .link .ensures)
-
-fill-requires : tie.Need-fill-requires
-fill-requires c κs = search needs
-
-slice-aggregate-redo : tie.Need-slice-aggregate-redo
-slice-aggregate-redo c = search needs
-
-slice-aggregate-redo-2 : tie.Need-slice-aggregate-redo-2
-slice-aggregate-redo-2 c = search needs
-
-redo-requires : tie.Need-redo-requires
-redo-requires c κs =
-    let a = c .before .before .before .before .before .before .before .before .before .before .before .before .before .before .before .before .before .before .before .before .before .before .before .before .args in
-    let h = c .before .before .before .before .before .before .before .before .before .before .before .before .before .before .before .before .before .before .before .before .before .before .before .before .pre in (
-      redo-ready (a .g .logical) (a .array .now) (a .g .pages) (a .bs .now) _ _ (a .map .now) (a .entries .now) _ (c .before .before .before .before .before .before .before .before .before .before .before .before .before .before .before .link .ensures)
-          (c .before .before .before .before .before .before .before .before .before .before .pages-good .result) (c .before .before .before .before .before .before .before .before .before .before .pages-good .ensures) (not-false _ (c .before .before .before .before .before .before .before .before .before .if1 .left)) (h .mapped) (h .enough) (c .before .before .before .before .before .fill .ensures),
-      c .before .before .before .before .before .before .before .top-version .ensures,
-    )
+scan-pages-requires : tie.Need-scan-pages-requires
+scan-pages-requires c κs =
+    let n = first-of 512 (c .before .before .before .before .before .slots .result) (c .before .before .before .before .if1 .taken) ∙ c .before .before .before .before .before .slots .ensures .0 in
+    (c .before .before .before .before .before .before .before .before .before .before .before .pre, record { pages = n; room = n; noted = n })
 
 same-length : tie.Need-same-length
 same-length c = search needs
 
+returns : tie.Need-returns
+returns c = search needs
+
+array-borrow-prefix-order-2 : tie.Need-array-borrow-prefix-order-2
+array-borrow-prefix-order-2 c = search needs
+
+slice-aggregate-scan-pages-4 : tie.Need-slice-aggregate-scan-pages-4
+slice-aggregate-scan-pages-4 c = sym (first-of 8064 (c .before .before .before .slots .result) (c .before .before .before .slots .ensures .1))
+
+array-borrow-prefix-other-2 : tie.Need-array-borrow-prefix-other-2
+array-borrow-prefix-other-2 c = search needs
+
+slice-aggregate-scan-pages-5 : tie.Need-slice-aggregate-scan-pages-5
+slice-aggregate-scan-pages-5 c = sym (first-of 8064 (c .before .before .before .before .slots .result) (c .before .before .before .before .slots .ensures .1))
+
+array-borrow-prefix-notes-2 : tie.Need-array-borrow-prefix-notes-2
+array-borrow-prefix-notes-2 c = search needs
+
+slice-aggregate-scan-pages-6 : tie.Need-slice-aggregate-scan-pages-6
+slice-aggregate-scan-pages-6 c = sym (first-of 8064 (c .before .before .before .before .before .slots .result) (c .before .before .before .before .before .slots .ensures .1))
+
+scan-pages-requires-2 : tie.Need-scan-pages-requires-2
+scan-pages-requires-2 c κs =
+    let n = first-of 8064 (c .before .before .before .before .before .slots .result) (c .before .before .before .before .before .slots .ensures .1) ∙ c .before .before .before .before .before .slots .ensures .0 in
+    (c .before .before .before .before .before .before .before .before .before .before .before .pre, record { pages = n; room = n; noted = n })
+
+same-length-2 : tie.Need-same-length-2
+same-length-2 c = search needs
+
 returns-2 : tie.Need-returns-2
-returns-2 c =
-    let a = c .before .before .before .before .before .before .before .before .before .before .before .before .before .before .before .before .before .before .before .before .before .before .before .before .before .before .before .args in
-    scan-passed (a .g .logical) (scanIn (a .array .now) (a .g .pages) (a .bs .now)) (a .floor) (a .entries .now) (a .map .now)
-    (c .before .before .before .before .before .before .before .before .before .before .before .before .before .pages-good .result) (c .before .before .before .before .before .before .before .before .before .before .before .before .before .pages-good .ensures) (not-false _ (c .before .before .before .before .before .before .before .before .before .before .before .before .if1 .left)) (c .before .before .before .before .before .before .before .before .before .before .top-version .result) (c .before .before .before .before .before .before .before .before .before .before .top-version .ensures)
-    (c .before .before .before .before .before .before .before .before .before .before .before .before .before .before .before .before .before .before .before .before .before .before .before .before .before .before .before .pre .mapped) _ (c .before .before .before .before .before .before .before .before .fill .ensures) _ (c .before .before .redo .ensures)
+returns-2 c = search needs
 
 pub scan-blocks-spec : {M : Type 1} → statement M
 scan-blocks-spec =
     tie.close
     (tie.spec
-    cast-pages
+    cast-slots
     slots-requires
-    cast-n
-    slice-aggregate-link
-    slice-aggregate-link-2
-    link-requires
-    slice-aggregate-pages-good
-    slice-aggregate-pages-good-2
-    pages-good-requires
-    returns
-    slice-aggregate-top-version
-    top-version-requires
-    fill-requires
-    slice-aggregate-redo
-    slice-aggregate-redo-2
-    redo-requires
+    array-borrow-prefix-order
+    slice-aggregate-scan-pages
+    array-borrow-prefix-other
+    slice-aggregate-scan-pages-2
+    array-borrow-prefix-notes
+    slice-aggregate-scan-pages-3
+    scan-pages-requires
     same-length
+    returns
+    array-borrow-prefix-order-2
+    slice-aggregate-scan-pages-4
+    array-borrow-prefix-other-2
+    slice-aggregate-scan-pages-5
+    array-borrow-prefix-notes-2
+    slice-aggregate-scan-pages-6
+    scan-pages-requires-2
+    same-length-2
     returns-2)

@@ -1,0 +1,8 @@
+pub mod Dealt
+pub mod Insert
+pub mod Entries
+pub mod Clear
+pub mod Pass
+pub mod Parts
+pub mod Best
+pub mod Examples

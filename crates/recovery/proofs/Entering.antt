@@ -1,0 +1,89 @@
+-- Pages entered one after the other, each where its rank is not below the best so far of its logical page. Assumes nothing.
+use mathlib.Core.Path.{_≡_, refl, sym, _∙_}
+use mathlib.Core.Bool.{Bool, true, false, cond}
+use mathlib.Core.List.{List, [], _∷_, _++_}
+use Prim.Native.Nat.{ℕ, _+_, _*_, _≤_, _<_}
+use native.Mathlib.Omega.{arith}
+use native.Mathlib.Numerals.{add-one}
+use lib.ListN.{length, take, drop, getD, set, length-set, length-take, length-drop}
+use lib.Seq.{take-suc}
+use lib.Dec.{eqb, leb}
+use borrow.Author.Tests.{le-leb, lt-leb}
+use Rattle.model.specs.Lists.{those}
+use Rattle.model.specs.Page.{spareOf}
+use Rattle.model.specs.Zones.{Entry, entryOf}
+use Rattle.model.specs.Recovery.{ofId}
+use Rattle.ranks.specs.Dealt.{Each, each-take, each-drop}
+use Rattle.ranks.specs.Pass.{Best, enterBest, bestOf, best-append}
+use Rattle.sorting.specs.Sort.{keyAt}
+use Rattle.scan.specs.Taken.{entryIn, entriesIn}
+use Rattle.recovery.specs.Redo.{Enterable}
+use Rattle.scan.proofs.Listing.{entries-append, entries-those}
+
+-- ---- one page
+-- the rank of the page alone counts
+pub enter-rank : (rank : Entry → ℕ) (e : Entry) (r : Best) → enterBest rank e r ≡ enterBest (λ (x : Entry). rank e) e r
+unfolding enterBest
+enter-rank rank e r = refl
+
+-- it is entered, or passed over
+pub enter-in : (v : ℕ) (e : Entry) (r : Best) → getD (r .ranks) (e .lpn) 0 ≤ v
+    → enterBest (λ (x : Entry). v) e r ≡ record { map = set (r .map) (e .lpn) (e .ppn); ranks = set (r .ranks) (e .lpn) v }
+unfolding enterBest
+enter-in v e r h = rw (le-leb (getD (r .ranks) (e .lpn) 0) v h)
+
+pub enter-out : (v : ℕ) (e : Entry) (r : Best) → v < getD (r .ranks) (e .lpn) 0 → enterBest (λ (x : Entry). v) e r ≡ r
+unfolding enterBest
+enter-out v e r h = rw (lt-leb (getD (r .ranks) (e .lpn) 0) v h)
+
+-- ---- one page more
+pub entries-more : (xs ks : List ℕ) (i : ℕ) → i < length ks → entriesIn xs (take (i + 1) ks) ≡ entriesIn xs (take i ks) ++ (entryIn xs (getD ks i 0) ∷ [])
+unfolding entriesIn
+entries-more xs ks i h = rw (add-one, take-suc ks i 0 h) (entries-append xs (take i ks) (getD ks i 0 ∷ []))
+
+pub enter-more : (rank : Entry → ℕ) (xs ks : List ℕ) (i : ℕ) (r : Best) → i < length ks
+    → bestOf rank (entriesIn xs (take (i + 1) ks)) r ≡ enterBest rank (entryIn xs (getD ks i 0)) (bestOf rank (entriesIn xs (take i ks)) r)
+unfolding bestOf
+enter-more rank xs ks i r h = rw (entries-more xs ks i h) (best-append rank (entriesIn xs (take i ks)) (entryIn xs (getD ks i 0) ∷ []) r)
+
+-- ---- all pages
+-- a fact of each page is one of each entry, and back
+pub entries-each : (P : Entry → Type 0) (xs ks : List ℕ) → Each (λ (k : ℕ). P (entryIn xs k)) ks → Each P (entriesIn xs ks)
+unfolding entriesIn
+entries-each P xs [] h = tt
+entries-each P xs (k ∷ ks) h = (h .0, entries-each P xs ks (h .1))
+
+pub each-entries : (P : Entry → Type 0) (xs ks : List ℕ) → Each P (entriesIn xs ks) → Each (λ (k : ℕ). P (entryIn xs k)) ks
+unfolding entriesIn
+each-entries P xs [] h = tt
+each-entries P xs (k ∷ ks) h = (h .0, each-entries P xs ks (h .1))
+
+-- the entries of an identifier are those of the pages that have it
+pub entries-id : (xs ks : List ℕ) (i : ℕ) → ofId i (entriesIn xs ks) ≡ entriesIn xs (those (λ (k : ℕ). eqb (keyAt xs 516 k) i) ks)
+unfolding ofId keyAt entryIn entryOf spareOf
+entries-id xs ks i = entries-those (λ (e : Entry). eqb (e .id) i) xs ks
+
+-- ranks that agree on them enter the same
+pub best-ranks : (rank rank′ : Entry → ℕ) (es : List Entry) (r : Best) → Each (λ (e : Entry). rank e ≡ rank′ e) es → bestOf rank es r ≡ bestOf rank′ es r
+unfolding bestOf enterBest
+best-ranks rank rank′ [] r h = refl
+best-ranks rank rank′ (e ∷ es) r h = rw (h .0) (best-ranks rank rank′ es _ (h .1))
+
+-- there are as many ranks as before
+pub best-lengths : (rank : Entry → ℕ) (es : List Entry) (r : Best) → length (bestOf rank es r .ranks) ≡ length (r .ranks)
+unfolding bestOf enterBest
+best-lengths rank [] r = refl
+best-lengths rank (e ∷ es) r = best-lengths rank es (enterBest rank e r) ∙ go (leb (getD (r .ranks) (e .lpn) 0) (rank e))
+  where
+    go : (t : Bool) → length (cond t (record { map = set (r .map) (e .lpn) (e .ppn); ranks = set (r .ranks) (e .lpn) (rank e) }) r .ranks) ≡ length (r .ranks)
+    go true = length-set (r .ranks) (e .lpn) (rank e)
+    go false = refl
+
+-- ---- some of the pages, one after the other
+pub part-enterable : (xs ks map ranks : List ℕ) (n i : ℕ) → Enterable xs ks map ranks → (m b : List ℕ) → length m ≡ length map → length b ≡ length ranks → Enterable xs (take n (drop i ks)) m b
+part-enterable xs ks map ranks n i e m b lm lb =
+    record {
+      pages = record { few = omega (arith, length-take n (drop i ks), length-drop i ks, e .pages .few); fit = each-take (λ (k : ℕ). k * 528 + 528 ≤ length xs) n (drop i ks) (each-drop (λ (k : ℕ). k * 528 + 528 ≤ length xs) i ks (e .pages .fit)) };
+      logical = rw lm (each-take (λ (k : ℕ). entryIn xs k .lpn < length map) n (drop i ks) (each-drop (λ (k : ℕ). entryIn xs k .lpn < length map) i ks (e .logical)));
+      ranked = lb ∙ e .ranked ∙ sym lm;
+    }

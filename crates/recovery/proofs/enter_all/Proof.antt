@@ -1,0 +1,80 @@
+-- `recovery::enter_all` meets its contract. Assumes nothing.
+use mathlib.Core.Path.{_≡_, refl, sym, ap, _∙_}
+use Prim.Native.Nat.{ℕ, suc, _+_, _-_, _*_, _≤_, _<_}
+use native.Mathlib.Omega.{arith}
+use mathlib.Core.List.{List}
+use lib.ListN.{length, take, getD}
+use lib.Seq.{length-take-le}
+use Rattle.model.specs.Zones.{Entry}
+use Rattle.ranks.specs.Pass.{Best, bestOf}
+use Rattle.scan.specs.Taken.{listed, entriesIn}
+use Rattle.scan.proofs.Loops.{listed-length}
+use Rattle.scan.proofs.Picked.{length-notes}
+use Rattle.recovery.proofs.Redoing.{ready-changes, ready-lone, lone-enter}
+use borrow.Author.Needs.{needs}
+use Rattle.recovery.proofs.enter_all.Statement.{statement}
+use Rattle.recovery.proofs.enter_all.Tie as tie
+use Rattle.scan.proofs.list.Reads as list-reads
+use Rattle.scan.proofs.pick.Reads as pick-reads
+
+enter-runs-requires : tie.Need-enter-runs-requires
+enter-runs-requires c κs =
+    let a = c .before .before .before .before .before .before .before .before .before .args in
+    let r = c .before .before .before .before .before .before .before .before .before .pre .0 in
+    ready-changes (a .map .now) (a .array .now) (a .pages) (a .bs .now) (a .changes .now) (a .notes .now) (a .other .now) r (λ i. c .before .before .before .before .before .before .shared-slice-known .given i .fits) (a .bests .now) (c .before .before .before .before .before .before .before .before .before .pre .1)
+
+list-requires : tie.Need-list-requires
+list-requires c κs =
+    let a = c .before .before .before .before .before .before .before .before .before .before .before .before .before .before .before .args in
+    let r = c .before .before .before .before .before .before .before .before .before .before .before .before .before .before .before .pre .0 in
+    (r .blocks .most, r .room)
+
+pick-requires : tie.Need-pick-requires
+pick-requires c κs =
+    let a = c .before .before .before .before .before .before .before .before .before .before .before .before .before .before .before .before .before .before .before .args in
+    let r = c .before .before .before .before .before .before .before .before .before .before .before .before .before .before .before .before .before .before .before .pre .0 in
+    omega (arith, ap length (r .note), length-notes (a .array .now) (listed (a .pages) (a .bs .now)), listed-length (a .pages) (a .bs .now), c .before .before .other .given, r .room)
+
+slice-reshare-prefix-enter-lone : tie.Need-slice-reshare-prefix-enter-lone
+slice-reshare-prefix-enter-lone c = search needs
+
+slice-aggregate-enter-lone : tie.Need-slice-aggregate-enter-lone
+slice-aggregate-enter-lone c =
+    let r = c .before .before .before .before .before .pick in
+    sym (length-take-le (r .result) (r .last .0) (omega (arith, r .ensures .0, c .before .before .before .before .other2 .given)))
+
+enter-lone-requires : tie.Need-enter-lone-requires
+enter-lone-requires c κs =
+    let a = c .before .before .before .before .before .before .before .before .before .before .before .before .before .before .before .before .before .before .before .before .before .before .before .before .before .args in
+    let r = c .before .before .before .before .before .before .before .before .before .before .before .before .before .before .before .before .before .before .before .before .before .before .before .before .before .pre .0 in
+    lone-enter (a .map .now) (a .array .now) (a .pages) (a .bs .now) (a .changes .now) (a .notes .now) (a .other .now) r _ (c .before .before .before .before .before .before .before .before .before .list .ensures) (c .before .before .before .before .before .pick .result) (c .before .before .before .before .before .pick .last .0) (c .before .before .before .before .before .pick .ensures .1) _ _ (omega (arith, c .before .before .before .before .before .before .before .before .before .before .before .before .before .before .map .given)) (omega (arith, c .before .before .before .before .before .before .before .before .before .before .before .before .before .before .map .given, c .before .before .before .before .before .before .before .before .before .before .before .before .bests .given, c .before .before .before .before .before .before .before .before .before .before .before .before .before .before .before .before .before .before .before .before .before .before .before .before .before .pre .1))
+
+same-length : tie.Need-same-length
+same-length c = search needs
+
+same-length-2 : tie.Need-same-length-2
+same-length-2 c = search needs
+
+same-length-3 : tie.Need-same-length-3
+same-length-3 c = search needs
+
+returns : tie.Need-returns
+returns c =
+    let a = c .before .before .before .before .before .before .before .before .before .before .before .before .before .before .before .before .before .before .before .before .before .before .before .before .before .before .before .before .before .before .args in
+    let r = c .before .before .before .before .before .before .before .before .before .before .before .before .before .before .before .before .before .before .before .before .before .before .before .before .before .before .before .before .before .before .pre .0 in
+    c .before .before .before .before .enter-lone .ensures ∙ rw (c .before .before .before .before .before .before .before .before .before .before .before .before .before .before .before .before .before .before .before .before .enter-runs .ensures, ready-lone (a .map .now) (a .array .now) (a .pages) (a .bs .now) (a .changes .now) (a .notes .now) (a .other .now) r _ (c .before .before .before .before .before .before .before .before .before .before .before .before .before .before .list .ensures) (c .before .before .before .before .before .before .before .before .before .before .pick .result) (c .before .before .before .before .before .before .before .before .before .before .pick .last .0) (c .before .before .before .before .before .before .before .before .before .before .pick .ensures .1))
+
+pub enter-all-spec : {M : Type 1} → statement M
+enter-all-spec =
+    tie.close
+    (tie.spec
+    enter-runs-requires
+    list-requires
+    pick-requires
+    slice-reshare-prefix-enter-lone
+    slice-aggregate-enter-lone
+    enter-lone-requires
+    same-length
+    same-length-2
+    same-length-3
+    returns)

@@ -1,0 +1,26 @@
+-- `recovery::id_of` meets its contract: from what its calls ensure. Assumes nothing.
+use mathlib.Core.Path.{_≡_, refl, sym, ap, _∙_}
+use Rattle.model.specs.Bytes.{le32}
+use Rattle.model.specs.Page.{pageAt}
+use Rattle.sorting.specs.Sort.{keyAt}
+use borrow.Author.Needs.{needs}
+use Rattle.recovery.proofs.id_of.Statement.{statement}
+use Rattle.recovery.proofs.id_of.Tie as tie
+use Rattle.flash.proofs.page_of.Reads as page-of-reads
+use Rattle.page.proofs.word32.Reads as word32-reads
+
+wide-requires : tie.Need-wide-requires
+wide-requires c κs = search needs
+
+page-of-requires : tie.Need-page-of-requires
+page-of-requires c κs = search needs
+
+word32-requires : tie.Need-word32-requires
+word32-requires c κs = search needs
+
+returns : tie.Need-returns
+unfolding keyAt
+returns c = c .word32 .ensures ∙ ap (λ q. le32 q 516) (c .before .page-of .ensures .0 ∙ ap (pageAt (c .before .before .before .before .args .array .now)) (c .before .before .wide .ensures))
+
+pub id-of-spec : {M : Type 1} → statement M
+id-of-spec = tie.close (tie.spec wide-requires page-of-requires word32-requires returns)

@@ -1,0 +1,120 @@
+-- `recovery::run_version` meets its contract. The loop's invariant: the version of the first i pages. Assumes nothing.
+use mathlib.Core.Path.{_≡_, refl, sym, ap, _∙_}
+use Prim.Native.Nat.{ℕ, _+_, _-_, _*_, _≤_, _<_, max}
+use native.Mathlib.Omega.{arith}
+use lib.ListN.{length, take, getD}
+use lib.Seq.{take-all}
+use lib.Dec.{eqb}
+use mathlib.Core.List.{List}
+use borrow.Author.Tests.{eq-eqb, ne-eqb}
+use Rattle.model.specs.Lists.{those}
+use Rattle.model.specs.Bytes.{le16, le32}
+use Rattle.model.specs.Page.{pageAt}
+use Rattle.model.specs.Zones.{Entry}
+use Rattle.model.specs.Recovery.{top}
+use Rattle.sorting.proofs.Laws.{page-fits}
+use Rattle.scan.specs.Taken.{entryIn, entriesIn}
+use Rattle.recovery.specs.Redo.{runVersion}
+use Rattle.recovery.proofs.Fields.{field-cnt, field-ver}
+use Rattle.recovery.proofs.Running.{version-more, version-same}
+use Rattle.recovery.proofs.run_version.Statement.{statement}
+use Rattle.recovery.proofs.run_version.Tie as tie
+use Rattle.flash.proofs.page_of.Reads as page-of-reads
+use Rattle.page.proofs.word16.Reads as word16-reads
+use Rattle.page.proofs.word32.Reads as word32-reads
+
+abbrev Inv-loop : tie.InvT-loop
+Inv-loop array run v₀ i₀ v i = (i ≤ length run) × (v ≡ top (those (λ (e : Entry). eqb (e .cnt) (length run)) (entriesIn array (take i run))))
+
+abbrev μ-loop : tie.MeasureT-loop
+μ-loop array run v₀ i₀ v i = length run - i
+
+loop-holds : tie.Need-loop-holds Inv-loop μ-loop
+unfolding entriesIn those top
+loop-holds c = (omega arith, refl)
+
+mul-wide : tie.Need-mul-wide Inv-loop μ-loop
+mul-wide c = omega arith
+
+shared-slice-read-wide : tie.Need-shared-slice-read-wide Inv-loop μ-loop
+shared-slice-read-wide c = omega arith
+
+wide-requires : tie.Need-wide-requires Inv-loop μ-loop
+wide-requires c κs = omega arith
+
+page-of-requires : tie.Need-page-of-requires Inv-loop μ-loop
+page-of-requires c κs = rw (c .wide .ensures) (page-fits _ (c .before .before .before .before .before .before .args .run .now) (c .before .before .before .loop .i) (c .before .before .before .before .before .before .pre) (omega arith))
+
+add-i : tie.Need-add-i Inv-loop μ-loop
+add-i c = omega arith
+
+word16-requires : tie.Need-word16-requires Inv-loop μ-loop
+word16-requires c κs = omega (arith, c .page-of .ensures .1)
+
+wide-requires-2 : tie.Need-wide-requires-2 Inv-loop μ-loop
+wide-requires-2 c κs = omega arith
+
+loop-less : tie.Need-loop-less Inv-loop μ-loop
+loop-less c = omega arith
+
+loop-again : tie.Need-loop-again Inv-loop μ-loop
+loop-again c =
+    let a = c .before .before .before .before .before .before .before .before .before .before .args in
+    let l = c .before .before .before .before .before .before .before .loop in
+    let k = getD (a .run .now) (l .i) 0 in
+    let e = c .before .before .before .page-of .ensures .0 ∙ ap (pageAt (a .array .now)) (c .before .before .before .before .wide .ensures) in
+    let w = c .before .wide2 .ensures ∙ c .before .before .word16 .ensures ∙ ap (λ q. le16 q 514) e ∙ field-cnt (a .array .now) k in (
+      omega arith,
+      l .inv .1 ∙ sym (version-same (λ (x : Entry). eqb (x .cnt) (length (a .run .now))) (a .array .now) (a .run .now) (l .i) (omega arith) (ne-eqb (entryIn (a .array .now) k .cnt) (length (a .run .now)) (λ q. c .if1 .taken (w ∙ q)))),
+    )
+
+word32-requires : tie.Need-word32-requires Inv-loop μ-loop
+word32-requires c κs = omega (arith, c .before .before .before .page-of .ensures .1)
+
+higher-requires : tie.Need-higher-requires Inv-loop μ-loop
+higher-requires c κs = omega arith
+
+loop-less-2 : tie.Need-loop-less-2 Inv-loop μ-loop
+loop-less-2 c = omega arith
+
+loop-again-2 : tie.Need-loop-again-2 Inv-loop μ-loop
+loop-again-2 c =
+    let a = c .before .before .before .before .before .before .before .before .before .before .before .before .args in
+    let l = c .before .before .before .before .before .before .before .before .before .loop in
+    let k = getD (a .run .now) (l .i) 0 in
+    let e = c .before .before .before .before .before .page-of .ensures .0 ∙ ap (pageAt (a .array .now)) (c .before .before .before .before .before .before .wide .ensures) in
+    let w = c .before .before .before .wide2 .ensures ∙ c .before .before .before .before .word16 .ensures ∙ ap (λ q. le16 q 514) e ∙ field-cnt (a .array .now) k in
+    let u = c .before .word32 .ensures ∙ ap (λ q. le32 q 520) e ∙ field-ver (a .array .now) k in (
+      omega arith,
+      c .higher .ensures ∙ rw (l .inv .1, u)
+          (sym (version-more (λ (x : Entry). eqb (x .cnt) (length (a .run .now))) (a .array .now) (a .run .now) (l .i) (omega arith) (eq-eqb (entryIn (a .array .now) k .cnt) (length (a .run .now)) (sym w ∙ c .before .before .if1 .left)))),
+    )
+
+returns : tie.Need-returns Inv-loop μ-loop
+unfolding runVersion
+returns c =
+    let a = c .before .before .before .before .args in
+    let l = c .before .loop in
+    l .inv .1 ∙ ap (λ (ks : List ℕ). top (those (λ (x : Entry). eqb (x .cnt) (length (a .run .now))) (entriesIn (a .array .now) ks))) (take-all (l .i) (a .run .now) (omega arith))
+
+pub run-version-spec : {M : Type 1} → statement M
+run-version-spec =
+    tie.close
+    (tie.spec
+    Inv-loop
+    μ-loop
+    loop-holds
+    mul-wide
+    shared-slice-read-wide
+    wide-requires
+    page-of-requires
+    add-i
+    word16-requires
+    wide-requires-2
+    loop-less
+    loop-again
+    word32-requires
+    higher-requires
+    loop-less-2
+    loop-again-2
+    returns)

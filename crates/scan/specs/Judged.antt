@@ -1,0 +1,39 @@
+-- Refusal 4 as the code asks for it: page by page, then along pages sorted by TxVer and by TxID.
+use Prim.Native.Nat.{ℕ}
+use mathlib.Core.Path.{_≡_}
+use mathlib.Core.Bool.{Bool, true, not, cond, _&&_}
+use mathlib.Core.List.{List, [], _∷_}
+use lib.ListN.{length}
+use lib.Dec.{eqb, ltb}
+use Rattle.model.specs.Page.{pageAt}
+use Rattle.model.specs.Bytes.{le16}
+use Rattle.sorting.specs.Sort.{keyAt, sortedBy, Pages}
+use Rattle.scan.specs.Taken.{Blocks, listed}
+use Rattle.scan.specs.Notes.{notesOf, noted, metAll, start}
+use Rattle.scan.specs.declared.Seen.{Seen}
+
+-- page k is a mark
+unfoldable pub markAt : List ℕ → ℕ → Bool
+markAt xs k = not (eqb (le16 (pageAt xs k) 514) 0)
+
+-- the numbers of four bytes at an offset rise from above `last` on, along the marks
+unfoldable pub risesFrom : List ℕ → ℕ → ℕ → List ℕ → Bool
+risesFrom xs at last [] = true
+risesFrom xs at last (k ∷ ks) = cond (markAt xs k) (ltb last (keyAt xs at k) && risesFrom xs at (keyAt xs at k) ks) (risesFrom xs at last ks)
+
+-- the pages of changes, sorted by TxID; those of one in scan order
+unfoldable pub changesOf : List ℕ → List ℕ → List ℕ
+changesOf xs ks = sortedBy xs 516 (noted xs 1 2 ks)
+
+-- a list of pages that were visited, with their notes, and room for as many
+pub record Visited (xs order notes other : List ℕ) : Type 0 where
+  pub pages : Pages (length xs) order
+  pub note : notes ≡ notesOf xs order
+  pub room : length other ≡ length order
+
+-- all pages of the blocks were visited, and met so
+pub record Scanned (logical : ℕ) (xs : List ℕ) (p : ℕ) (bs order notes other : List ℕ) (m : Seen) : Type 0 where
+  pub blocks : Blocks xs p bs
+  pub list : order ≡ listed p bs
+  pub visit : Visited xs order notes other
+  pub met : m ≡ metAll logical xs order start
