@@ -52,9 +52,9 @@ extern "C" {
 #endif
 
 #define BOKUHIRA_VERSION_MAJOR 0
-#define BOKUHIRA_VERSION_MINOR 2
+#define BOKUHIRA_VERSION_MINOR 3
 #define BOKUHIRA_VERSION_PATCH 0
-#define BOKUHIRA_VERSION "0.2.0"
+#define BOKUHIRA_VERSION "0.3.0"
 
 /*
  * The state: each field by its offset, little-endian, with nothing left between the fields. BOKUHIRA_STATE bytes encode a state if the
@@ -100,11 +100,11 @@ extern "C" {
 #define BOKUHIRA_ARRAY_MAX BOKUHIRA_ARRAY(BOKUHIRA_BLOCKS_MAX, BOKUHIRA_PAGES_MAX)
 
 /*
- * Stack for a call. Recover takes less than 32 KiB, every other function less than 24 KiB; this is half as much again. It is true of
- * the archive as the kit compiles it for x86-64: measured (docs/BENCHMARKS.md), and added up from the frames, since nothing in it calls
+ * Stack for a call. Recover takes less than 56 KiB, every other function less than 24 KiB; this is 8 KiB more. It is true of the
+ * archive as the kit compiles it for x86-64: measured (docs/BENCHMARKS.md), and added up from the frames, since nothing in it calls
  * itself or through a pointer. The caller's own frames, and interrupts on the same stack, come on top.
  */
-#define BOKUHIRA_STACK 49152
+#define BOKUHIRA_STACK 65536
 
 /* Limits. */
 #define BOKUHIRA_PLACES 8        /* open changes */

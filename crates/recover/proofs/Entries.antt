@@ -1,11 +1,11 @@
--- The pages of a checkpoint as they are read: the map entries, copied into the map, and the zone page's data. Assumes nothing.
+-- The pages of a checkpoint as they are read: the map entries, and the zone page's data. Assumes nothing.
 use mathlib.Core.Path.{_≡_, refl, ap, sym, _∙_}
 use mathlib.Core.List.{List, _++_}
 use Prim.Native.Nat.{ℕ, zero, suc, _+_, _-_, _*_, _≤_, _<_}
 use native.Mathlib.Omega.{arith}
 use native.Mathlib.Nat.{add-sub-cancel-left, mul-le-mul-right}
-use lib.ListN.{length, take, drop, set, getD, replicate, length-append}
-use lib.Seq.{take-suc, take-all, take-suc-set, take-take, take-at}
+use lib.ListN.{length, take, drop, replicate, length-append}
+use lib.Seq.{take-take, take-at}
 use Rattle.model.specs.Bytes.{words}
 use Rattle.model.specs.Lists.{part}
 use Rattle.model.specs.Page.{pageAt, dataAt}
@@ -16,15 +16,6 @@ use Rattle.arrays.specs.Pages.{PageFits, length-data}
 use Rattle.arrays.specs.Ranges.{geometry-in, maps-few, maps-hold}
 use Rattle.load.proofs.Words.{length-words}
 use Rattle.recover.specs.Recovering.{Standing, Loaded}
-
--- ---- entries copied into the map l
-pub copy-more : (l es : List ℕ) (i : ℕ) → i < length l → i < length es → take i l ≡ take i es → take (i + 1) (set l i (getD es i 0)) ≡ take (i + 1) es
-copy-more l es i h k e =
-    let s : i + 1 ≡ suc i = omega arith in
-    rw s (take-suc-set l i (getD es i 0) h ∙ rw e (sym (take-suc es i 0 k)))
-
-pub copy-all : (l es : List ℕ) (i n : ℕ) → length l ≡ n → i ≡ n → take i l ≡ take i es → l ≡ take n es
-copy-all l es i n h k e = sym (take-all i l (omega arith)) ∙ e ∙ ap (λ (j : ℕ). take j es) k
 
 -- ---- the m map pages from page k of xs on
 length-entries : (xs : List ℕ) (k m : ℕ) → k * 528 + m * 528 ≤ length xs → length (loadMap xs k m) ≡ 256 * m

@@ -5,7 +5,7 @@ use mathlib.Core.Bool.{Bool, true, false, _&&_}
 use mathlib.Core.List.{List, _++_}
 use Prim.Native.Nat.{ℕ, _+_, _-_, _*_, _≤_, max}
 use native.Mathlib.Omega.{arith}
-use lib.ListN.{length, take, drop, replicate, length-replicate}
+use lib.ListN.{length, take, drop, replicate}
 use lib.Seq.{length-take-le}
 use lib.Dec.{eqb}
 use Rattle.model.specs.Bytes.{le32}
@@ -27,7 +27,7 @@ use Rattle.load.specs.Load.{zonePageOk}
 use Rattle.load.proofs.Lists.{halves}
 use Rattle.scan.specs.Taken.{Blocks, listed}
 use Rattle.scan.specs.Notes.{notesOf, metAll, start}
-use Rattle.scan.specs.Judged.{changesOf, Scanned}
+use Rattle.scan.specs.Judged.{changesOf, Surveyed}
 use Rattle.scan.specs.declared.Seen.{Seen}
 use Rattle.scan.proofs.Loops.{listed-length, listed-pages}
 use Rattle.scan.proofs.Visiting.{met-few}
@@ -47,7 +47,7 @@ module _ (g : Geometry) (xs map bs entries : List ℕ) (h : Scannable g xs map b
 
   -- all pages of the scan were visited, and met so
   pub scan-met : (order other notes : List ℕ) (m : Seen) → order ≡ listed (g .pages) bs → length other ≡ length bs * g .pages
-      → m ≡ metAll (g .logical) xs order start → notes ≡ notesOf xs order → Scanned (g .logical) xs (g .pages) bs order notes other m
+      → m ≡ metAll (g .logical) xs order start → notes ≡ notesOf xs order → Surveyed (g .logical) xs (g .pages) bs order notes other m
   scan-met order other notes m l r s n =
       record {
         blocks = blocks-in;
@@ -62,7 +62,8 @@ module _ (g : Geometry) (xs map bs entries : List ℕ) (h : Scannable g xs map b
 
   -- entries that were copied into the map m, over a scan that refusal 4 passes
   pub redo-ready : (good : Bool) → good ≡ pagesGood (g .logical) (scanIn xs (g .pages) bs) → good ≡ true → (m : List ℕ) → m ≡ take (length map) entries
-      → (order other notes changes : List ℕ) → order ≡ listed (g .pages) bs → length other ≡ length bs * g .pages → notes ≡ notesOf xs order → changes ≡ changesOf xs (listed (g .pages) bs)
+      → (order other notes changes : List ℕ) → order ≡ listed (g .pages) bs → length other ≡ length bs * g .pages → notes ≡ notesOf xs order
+      → changes ≡ changesOf xs (listed (g .pages) bs)
       → Ready m xs (g .pages) bs changes notes other
   redo-ready good eg ok m e order other notes changes l r n c =
       let i = geometry-in g (h .shape) in
@@ -79,7 +80,8 @@ module _ (g : Geometry) (xs map bs entries : List ℕ) (h : Scannable g xs map b
   -- the highest version that was met
   pub top-met : (good : Bool) → good ≡ pagesGood (g .logical) (scanIn xs (g .pages) bs) → good ≡ true → (order : List ℕ) → order ≡ listed (g .pages) bs
       → (m : Seen) → m ≡ metAll (g .logical) xs order start → m .top ≡ top (scanIn xs (g .pages) bs)
-  top-met good eg ok order l m s = ap (λ (x : Seen). x .top) (s ∙ ap (λ (ks : List ℕ). metAll (g .logical) xs ks start) l) ∙ good-top (g .logical) xs (g .pages) bs (sym eg ∙ ok)
+  top-met good eg ok order l m s =
+      ap (λ (x : Seen). x .top) (s ∙ ap (λ (ks : List ℕ). metAll (g .logical) xs ks start) l) ∙ good-top (g .logical) xs (g .pages) bs (sym eg ∙ ok)
 
 -- what is made of a scan that refusal 4 does not pass, and of one that it passes
 module _ (logical : ℕ) (es : List Entry) (floor : ℕ) (entries map : List ℕ) where

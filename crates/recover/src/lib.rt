@@ -1,8 +1,8 @@
 // Recover, from a complete checkpoint: 3, 4, and else the map and the state that follow. It programs nothing.
 ghost use mathlib.Core.Path.{_≡_};
 ghost use mathlib.Core.Bool.{true};
-ghost use Prim.Native.Nat.{_≤_, _<_};
-ghost use lib.ListN.{length, take};
+ghost use Prim.Native.Nat.{_<_};
+ghost use lib.ListN.{take};
 ghost use Rattle.model.specs.Answers.{number};
 ghost use Rattle.model.specs.Geometry.{geometryOk};
 ghost use Rattle.model.specs.Zones.{scanIn};
@@ -33,18 +33,6 @@ pub struct Scanned {
     pub top: u32,
 }
 
-/// Copies the entries into the map, as many as it has.
-fn fill(map: &mut [u16], entries: &[u16])
-    requires { ⌜ length (now map) ≤ length (now entries) ⌝ }
-    ensures { λ _. ⌜ now (map .exit) ≡ take (length (now (map .entry))) (now (entries .entry)) ⌝ }
-{
-    let mut i: usize = 0;
-    while i < map.len() {
-        map[i] = entries[i];
-        i += 1;
-    }
-}
-
 /// Scans the blocks, and where refusal 4 passes makes the map of the entries and what is applied above the floor. A list of pages, room for
 /// another and notes are lent, each as long as the scan.
 fn scan_pages(
@@ -70,7 +58,8 @@ fn scan_pages(
             top: 0,
         };
     }
-    fill(map, entries);
+    let l = map.len();
+    sorting::copy(&entries[..l], map);
     let n = seen.changes as usize;
     recovery::redo(
         map,
@@ -101,7 +90,7 @@ fn scan_blocks(
     requires { ⌜ Scannable g (now array) (now map) (now bs) (now entries) ⌝ }
     ensures { λ r. ⌜ scannedOf (g .logical) (scanIn (now (array .entry)) (g .pages) (now (bs .entry))) floor (take (g .logical) (now (entries .entry))) (now (map .entry)) ≡ record { good = r .good; top = r .top; map = now (map .exit) } ⌝ }
 {
-    let n = scan::slots(bs, g.pages as usize);
+    let n = scan::size(bs, g.pages as usize);
     if n <= FEW {
         let mut order = [0u16; FEW];
         let mut other = [0u16; FEW];

@@ -1,23 +1,24 @@
 -- Pages entered one after the other, each where its rank is not below the best so far of its logical page. Assumes nothing.
-use mathlib.Core.Path.{_≡_, refl, sym, _∙_}
+use mathlib.Core.Path.{_≡_, refl, sym, ap, _∙_}
 use mathlib.Core.Bool.{Bool, true, false, cond}
 use mathlib.Core.List.{List, [], _∷_, _++_}
 use Prim.Native.Nat.{ℕ, _+_, _*_, _≤_, _<_}
 use native.Mathlib.Omega.{arith}
 use native.Mathlib.Numerals.{add-one}
 use lib.ListN.{length, take, drop, getD, set, length-set, length-take, length-drop}
-use lib.Seq.{take-suc}
+use lib.Seq.{take-suc, take-all}
 use lib.Dec.{eqb, leb}
 use borrow.Author.Tests.{le-leb, lt-leb}
 use Rattle.model.specs.Lists.{those}
 use Rattle.model.specs.Page.{spareOf}
 use Rattle.model.specs.Zones.{Entry, entryOf}
 use Rattle.model.specs.Recovery.{ofId}
-use Rattle.ranks.specs.Dealt.{Each, each-take, each-drop}
+use Rattle.ranks.specs.Dealt.{Each, each-at, each-take, each-drop}
 use Rattle.ranks.specs.Pass.{Best, enterBest, bestOf, best-append}
 use Rattle.sorting.specs.Sort.{keyAt}
 use Rattle.scan.specs.Taken.{entryIn, entriesIn}
-use Rattle.recovery.specs.Redo.{Enterable}
+use Rattle.sorting.proofs.Laws.{page-fits}
+use Rattle.recovery.specs.Redo.{best, Enterable}
 use Rattle.scan.proofs.Listing.{entries-append, entries-those}
 
 -- ---- one page
@@ -80,10 +81,51 @@ best-lengths rank (e ∷ es) r = best-lengths rank es (enterBest rank e r) ∙ g
     go false = refl
 
 -- ---- some of the pages, one after the other
-pub part-enterable : (xs ks map ranks : List ℕ) (n i : ℕ) → Enterable xs ks map ranks → (m b : List ℕ) → length m ≡ length map → length b ≡ length ranks → Enterable xs (take n (drop i ks)) m b
+pub part-enterable : (xs ks map ranks : List ℕ) (n i : ℕ) → Enterable xs ks map ranks
+    → (m b : List ℕ) → length m ≡ length map → length b ≡ length ranks → Enterable xs (take n (drop i ks)) m b
 part-enterable xs ks map ranks n i e m b lm lb =
     record {
-      pages = record { few = omega (arith, length-take n (drop i ks), length-drop i ks, e .pages .few); fit = each-take (λ (k : ℕ). k * 528 + 528 ≤ length xs) n (drop i ks) (each-drop (λ (k : ℕ). k * 528 + 528 ≤ length xs) i ks (e .pages .fit)) };
-      logical = rw lm (each-take (λ (k : ℕ). entryIn xs k .lpn < length map) n (drop i ks) (each-drop (λ (k : ℕ). entryIn xs k .lpn < length map) i ks (e .logical)));
+      pages = record { few = omega (arith, length-take n (drop i ks), length-drop i ks, e .pages .few); fit = part (λ (k : ℕ). k * 528 + 528 ≤ length xs) (e .pages .fit) };
+      logical = rw lm (part (λ (k : ℕ). entryIn xs k .lpn < length map) (e .logical));
       ranked = lb ∙ e .ranked ∙ sym lm;
     }
+  where
+    part : (P : ℕ → Type 0) → Each P ks → Each P (take n (drop i ks))
+    part P h = each-take P n (drop i ks) (each-drop P i ks h)
+
+-- the first i of the pages ks are entered over map₀ and ranks₀
+pub record Entered (rank : Entry → ℕ) (xs ks map₀ ranks₀ : List ℕ) (i : ℕ) (map ranks : List ℕ) : Type 0 where
+  pub most : i ≤ length ks
+  pub mapped : length map ≡ length map₀
+  pub ranked : length ranks ≡ length ranks₀
+  pub is : best map ranks ≡ bestOf rank (entriesIn xs (take i ks)) (best map₀ ranks₀)
+
+module _ (rank : Entry → ℕ) (xs ks map₀ ranks₀ : List ℕ) where
+  pub entered-none : Entered rank xs ks map₀ ranks₀ 0 map₀ ranks₀
+  unfolding bestOf entriesIn
+  entered-none = record { most = omega arith; mapped = refl; ranked = refl; is = refl }
+
+  module _ (i : ℕ) (map ranks : List ℕ) (d : Entered rank xs ks map₀ ranks₀ i map ranks) where
+    abbrev page : ℕ
+    page = getD ks i 0
+
+    -- what entering page i asks for
+    pub entered-next : Enterable xs ks map₀ ranks₀ → i < length ks → (page * 528 + 528 ≤ length xs) × ((entryIn xs page .lpn < length map) × (length ranks ≡ length map))
+    entered-next e l = (
+      page-fits (length xs) ks i (e .pages) l,
+      (rw (d .mapped) (each-at (λ (k : ℕ). entryIn xs k .lpn < length map₀) ks i 0 (e .logical) l), d .ranked ∙ e .ranked ∙ sym (d .mapped)),
+    )
+
+    -- and what it leaves, entered with its rank v
+    pub entered-more : i < length ks → (v : ℕ) → v ≡ rank (entryIn xs page) → (m r : List ℕ) → length m ≡ length map → length r ≡ length ranks
+        → best m r ≡ enterBest (λ (e : Entry). v) (entryIn xs page) (best map ranks) → Entered rank xs ks map₀ ranks₀ (i + 1) m r
+    entered-more l v q m r lm lr e =
+        record {
+          most = omega arith;
+          mapped = lm ∙ d .mapped;
+          ranked = lr ∙ d .ranked;
+          is = e ∙ rw (q, d .is) (sym (enter-rank rank (entryIn xs page) _)) ∙ sym (enter-more rank xs ks i (best map₀ ranks₀) l);
+        }
+
+    pub entered-all : length ks ≤ i → best map ranks ≡ bestOf rank (entriesIn xs ks) (best map₀ ranks₀)
+    entered-all l = d .is ∙ ap (λ (js : List ℕ). bestOf rank (entriesIn xs js) (best map₀ ranks₀)) (take-all i ks l)

@@ -31,7 +31,7 @@ use Rattle.scan.proofs.Visiting.{those-both, noted-changes, noted-lone}
 use Rattle.scan.proofs.Judging.{key-id}
 use Rattle.scan.proofs.Loops.{listed-pages}
 use Rattle.scan.proofs.Picked.{picked-noted, noted-pages, sorted-pages}
-use Rattle.recovery.specs.Redo.{best, Enterable, Runs, Ready}
+use Rattle.recovery.specs.Redo.{best, allEntered, Enterable, Runs, Ready}
 use Rattle.recovery.proofs.Entering.{entries-each, each-entries, entries-id, best-ranks}
 
 -- ---- nothing is above the floor
@@ -176,8 +176,7 @@ module _ (xs : List ℕ) (p : ℕ) (bs : List ℕ) (low : (i : ℕ) → getD xs 
 -- ---- so what is entered is what is redone
 pub redo-is : (logical floor : ℕ) (xs : List ℕ) (p : ℕ) (bs : List ℕ) (m : List ℕ) → ((i : ℕ) → getD xs i 0 < 256)
     → pagesGood logical (scanIn xs p bs) ≡ true
-    → bestOf (λ (e : Entry). e .ver) (entriesIn xs (noted xs 3 3 (listed p bs)))
-    (bestOf (rankOf (entriesIn xs (changesOf xs (listed p bs)))) (entriesIn xs (changesOf xs (listed p bs))) (startBest (suc floor) m)) .map
+    → allEntered xs (changesOf xs (listed p bs)) (noted xs 3 3 (listed p bs)) (startBest (suc floor) m) .map
     ≡ redone floor (scanIn xs p bs) m
 unfolding bestPass
 redo-is logical floor xs p bs m low good =
@@ -229,8 +228,9 @@ first-length n x map h = length-take-le (length map) (replicate n x) (omega (ari
 
 pub redo-all : (floor n : ℕ) (map xs : List ℕ) (p : ℕ) (bs cs notes other : List ℕ) → ((i : ℕ) → getD xs i 0 < 256) → Ready map xs p bs cs notes other → length map ≤ n
     → (m ranks : List ℕ)
-    → best m ranks ≡ bestOf (λ (e : Entry). e .ver) (entriesIn xs (noted xs 3 3 (listed p bs))) (bestOf (rankOf (entriesIn xs cs)) (entriesIn xs cs) (best map (take (length map) (replicate n (floor + 1)))))
+    → best m ranks ≡ allEntered xs cs (noted xs 3 3 (listed p bs)) (best map (take (length map) (replicate n (floor + 1))))
     → m ≡ redone floor (scanIn xs p bs) map
 redo-all floor n map xs p bs cs notes other low r few m ranks e =
-    let s : best map (take (length map) (replicate n (floor + 1))) ≡ startBest (suc floor) map = ap (best map) (take-replicate (length map) n (floor + 1) few ∙ ap (replicate (length map)) (add-one floor)) in
+    let s : best map (take (length map) (replicate n (floor + 1))) ≡ startBest (suc floor) map =
+    ap (best map) (take-replicate (length map) n (floor + 1) few ∙ ap (replicate (length map)) (add-one floor)) in
     ap (λ (b : Best). b .map) (rw (s, r .change) at e) ∙ redo-is (length map) floor xs p bs map low (r .good)

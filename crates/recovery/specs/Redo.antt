@@ -11,7 +11,8 @@ use Rattle.model.specs.Lists.{those}
 use Rattle.model.specs.Zones.{Entry, scanIn}
 use Rattle.model.specs.Recovery.{pagesGood, top}
 use Rattle.ranks.specs.Dealt.{Each, Sorted}
-use Rattle.ranks.specs.Pass.{Best}
+use Rattle.ranks.specs.Pass.{Best, bestOf}
+use Rattle.ranks.specs.Best.{rankOf}
 use Rattle.sorting.specs.Sort.{keyAt, Pages}
 use Rattle.scan.specs.Taken.{Blocks, listed, entryIn, entriesIn}
 use Rattle.scan.specs.Notes.{notesOf}
@@ -29,6 +30,10 @@ runOf xs id (k ∷ ks) = cond (eqb (keyAt xs 516 k) id) (suc (runOf xs id ks)) 0
 -- the version of a run: of its page whose TxCnt is their number, or 0
 unfoldable pub runVersion : List ℕ → List ℕ → ℕ
 runVersion xs run = top (those (λ (e : Entry). eqb (e .cnt) (length run)) (entriesIn xs run))
+
+-- pages of changes entered with the versions of their runs, then lone pages with their own
+abbrev pub allEntered : List ℕ → List ℕ → List ℕ → Best → Best
+allEntered xs changes lone r = bestOf (λ (e : Entry). e .ver) (entriesIn xs lone) (bestOf (rankOf (entriesIn xs changes)) (entriesIn xs changes) r)
 
 -- pages that may be entered: they lie in the array, and their logical pages in the map
 pub record Enterable (xs ks map ranks : List ℕ) : Type 0 where

@@ -11,7 +11,7 @@ ghost use Rattle.ranks.specs.Best.{rankOf};
 ghost use Rattle.sorting.specs.Sort.{keyAt, Pages};
 ghost use Rattle.scan.specs.Taken.{listed, entryIn, entriesIn};
 ghost use Rattle.scan.specs.Notes.{noted};
-ghost use Rattle.recovery.specs.Redo.{best, runOf, runVersion, Enterable, Runs, Ready};
+ghost use Rattle.recovery.specs.Redo.{best, allEntered, runOf, runVersion, Enterable, Runs, Ready};
 use model::Geometry;
 use model::Spare;
 
@@ -23,8 +23,8 @@ fn enter(map: &mut [u16], bests: &mut [u32], array: &[u8], k: u16, v: u32)
     requires { ⌜ (k * 528 + 528 ≤ length (now array)) × ((entryIn (now array) k .lpn < length (now map)) × (length (now bests) ≡ length (now map))) ⌝ }
     ensures { λ _. ⌜ best (now (map .exit)) (now (bests .exit)) ≡ enterBest (λ (e : Entry). v) (entryIn (now (array .entry)) k) (best (now (map .entry)) (now (bests .entry))) ⌝ }
 {
-    let page = flash::page_of(array, wide(k));
-    let l = wide(page::word16(page, Spare::LPN));
+    let page = flash::page_of(array, sorting::wide16(k));
+    let l = sorting::wide16(page::word16(page, Spare::LPN));
     if v < bests[l] {
         return;
     }
@@ -52,7 +52,7 @@ fn enter_lone(map: &mut [u16], bests: &mut [u32], array: &[u8], lone: &[u16])
     let mut i: usize = 0;
     while i < lone.len() {
         let k = lone[i];
-        let v = page::word32(flash::page_of(array, wide(k)), Spare::VER);
+        let v = page::word32(flash::page_of(array, sorting::wide16(k)), Spare::VER);
         enter(map, bests, array, k, v);
         i += 1;
     }
@@ -79,7 +79,7 @@ fn id_of(array: &[u8], k: u16) -> u32
     requires { ⌜ k * 528 + 528 ≤ length (now array) ⌝ }
     ensures { λ r. ⌜ r ≡ keyAt (now (array .entry)) 516 k ⌝ }
 {
-    page::word32(flash::page_of(array, wide(k)), Spare::ID)
+    page::word32(flash::page_of(array, sorting::wide16(k)), Spare::ID)
 }
 
 /// The version of a run: that of its mark, if the mark counts its pages, else 0.
@@ -90,9 +90,9 @@ fn run_version(array: &[u8], run: &[u16]) -> u32
     let mut v: u32 = 0;
     let mut i: usize = 0;
     while i < run.len() {
-        let page = flash::page_of(array, wide(run[i]));
+        let page = flash::page_of(array, sorting::wide16(run[i]));
         i += 1;
-        if wide(page::word16(page, Spare::CNT)) != run.len() {
+        if sorting::wide16(page::word16(page, Spare::CNT)) != run.len() {
             continue;
         }
         v = higher(v, page::word32(page, Spare::VER));
@@ -126,7 +126,7 @@ fn enter_all(
     other: &mut [u16],
 )
     requires { ⌜ Ready (now map) (now array) pages (now bs) (now changes) (now notes) (now other) × (length (now bests) ≡ length (now map)) ⌝ }
-    ensures { λ _. ⌜ best (now (map .exit)) (now (bests .exit)) ≡ bestOf (λ (e : Entry). e .ver) (entriesIn (now (array .entry)) (noted (now (array .entry)) 3 3 (listed pages (now (bs .entry))))) (bestOf (rankOf (entriesIn (now (array .entry)) (now (changes .entry)))) (entriesIn (now (array .entry)) (now (changes .entry))) (best (now (map .entry)) (now (bests .entry)))) ⌝ }
+    ensures { λ _. ⌜ best (now (map .exit)) (now (bests .exit)) ≡ allEntered (now (array .entry)) (now (changes .entry)) (noted (now (array .entry)) 3 3 (listed pages (now (bs .entry)))) (best (now (map .entry)) (now (bests .entry))) ⌝ }
 {
     enter_runs(map, bests, array, changes);
     scan::list(bs, pages, other);
@@ -175,11 +175,4 @@ pub fn higher(v: u32, w: u32) -> u32
         return w;
     }
     v
-}
-
-/// A number of two bytes as a number of the array's size.
-fn wide(x: u16) -> usize
-    ensures { λ r. ⌜ r ≡ x ⌝ }
-{
-    x as usize
 }

@@ -8,7 +8,7 @@ use lib.ListN.{length, getD, length-append}
 use lib.Seq.{getD-take}
 use lib.Dec.{eqb, ltb}
 use borrow.Author.Tests.{lt-ltb, le-ltb, eq-eqb, ne-eqb, ltb-true, eqb-false}
-use Rattle.model.specs.Lists.{all, upFrom, without}
+use Rattle.model.specs.Lists.{upFrom, without}
 use Rattle.model.specs.Geometry.{geometryOk, dataBlock}
 use Rattle.model.specs.Zones.{zonesOf, freeIndex, pastBlock, takeOne, refill, zonesTaken}
 use Rattle.model.specs.Zones as zones

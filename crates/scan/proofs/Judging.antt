@@ -22,7 +22,7 @@ use Rattle.sorting.specs.Sort.{keyAt, sortedBy}
 use Rattle.sorting.proofs.Keys.{key-sorted, key-keeps, sorted-each}
 use Rattle.scan.specs.Taken.{listed, entryIn, entriesIn}
 use Rattle.scan.specs.Notes.{noted, metAll, start}
-use Rattle.scan.specs.Judged.{markAt, risesFrom}
+use Rattle.scan.specs.Judged.{markAt, risesFrom, differ}
 use Rattle.scan.specs.declared.Seen.{Seen}
 use Rattle.scan.proofs.Listing.{wholes, entries-those, scan-listed}
 use Rattle.scan.proofs.Visiting.{met-good, met-fine, met-top, met-rising, those-both, noted-changes, noted-last, noted-marks}
@@ -200,10 +200,7 @@ module _ (logical : ℕ) (xs ks : List ℕ) (low : (i : ℕ) → getD xs i 0 < 2
       (distinct-rises xs 516 (omega arith) low (noted xs 1 2 ks) (ids-nonzero xs ks) is))
 
 pub judged : (logical : ℕ) (xs : List ℕ) (p : ℕ) (bs : List ℕ) → ((i : ℕ) → getD xs i 0 < 256) → (m : Seen) → m ≡ metAll logical xs (listed p bs) start
-    → (m .good
-    && ((m .rising || risesFrom xs 520 0 (sortedBy xs 520 (noted xs 2 3 (listed p bs))))
-    && risesFrom xs 516 0 (sortedBy xs 516 (noted xs 1 2 (listed p bs)))))
-    ≡ pagesGood logical (scanIn xs p bs)
+    → (m .good && ((m .rising || differ xs 2 3 520 (listed p bs)) && differ xs 1 2 516 (listed p bs))) ≡ pagesGood logical (scanIn xs p bs)
 judged logical xs p bs low m e =
     let ks = listed p bs in
     rw (e, scan-listed xs p bs) (both-ways _ _ (passes logical xs ks low) (passed-by logical xs ks low))

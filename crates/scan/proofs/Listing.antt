@@ -2,15 +2,13 @@
 use mathlib.Core.Path.{_≡_, refl, sym, ap, ap₂, _∙_}
 use mathlib.Core.Bool.{Bool, true, false}
 use mathlib.Core.List.{List, [], _∷_, _++_}
-use Prim.Native.Nat.{ℕ, zero, suc, _+_, _*_, _≤_, _<_}
-use native.Mathlib.Omega.{arith}
+use Prim.Native.Nat.{ℕ, zero, suc, _+_, _*_}
 use lib.ListN.{length}
 use Rattle.model.specs.Lists.{keep, those, upFrom}
 use Rattle.model.specs.Page.{pageAt, spareOf, wholeAt}
 use Rattle.model.specs.Zones.{Entry, entryOf, entryAt, wholeFrom, scanIn}
 use Rattle.arrays.specs.Tests.{those-append}
 use Rattle.arrays.specs.Scan.{run-zero, run-suc, scan-nil, scan-cons}
-use Rattle.ranks.specs.Dealt.{Each}
 use Rattle.scan.specs.Taken.{listed, entryIn, entriesIn}
 
 -- the whole ones of some pages

@@ -1,15 +1,15 @@
 -- A turn of each loop over lists of pages: pages listed, pages picked by their notes, keys that rise along the marks. Assumes nothing.
 use mathlib.Core.Path.{_≡_, refl, sym, ap, _∙_, subst}
 use mathlib.Core.Logic.{_≢_}
-use mathlib.Core.Bool.{Bool, true, false, not, cond, _&&_}
+use mathlib.Core.Bool.{Bool, true, false, cond, _&&_}
 use mathlib.Core.List.{List, [], _∷_, _++_, append-nil, append-assoc}
 use Prim.Native.Nat.{ℕ, zero, suc, _+_, _-_, _*_, _≤_, _<_}
 use native.Mathlib.Omega.{arith}
 use native.Mathlib.Numerals.{add-one}
 use native.Mathlib.Nat.{mul-le-mul}
-use lib.ListN.{length, take, drop, set, getD, length-set, length-append, take-append-drop}
-use lib.Seq.{take-suc, take-suc-set, take-set-le, drop-set-lt, drop-drop, drop-cons, getD-drop, take-all, length-take-le, take-add, take-at, split-at}
-use lib.Dec.{eqb, ltb, leb}
+use lib.ListN.{length, take, drop, set, getD, length-set, length-append}
+use lib.Seq.{take-suc, take-suc-set, take-set-le, drop-set-lt, drop-drop, drop-cons, getD-drop, take-all, length-take-le, take-at}
+use lib.Dec.{ltb}
 use borrow.Author.Tests.{eq-eqb, ne-eqb, lt-ltb, le-ltb}
 use Rattle.model.specs.Lists.{keep, upFrom}
 use Rattle.model.specs.Bytes.{le16, le32}

@@ -26,7 +26,7 @@ use Rattle.ranks.specs.Clear.{Fine, fine-ver, all-entries}
 use Rattle.ranks.specs.Parts.{isChange}
 use Rattle.sorting.specs.Sort.{keyAt}
 use Rattle.scan.specs.Taken.{entryIn, entriesIn}
-use Rattle.scan.specs.Notes.{noteOf, noteAt, notesOf, inside, picked, noted, numbersGood, spareGood, risen, counted, met, metAll, start}
+use Rattle.scan.specs.Notes.{noteOf, noteAt, notesOf, inside, noted, numbersGood, spareGood, risen, counted, met, metAll, start}
 use Rattle.scan.specs.Judged.{markAt}
 use Rattle.scan.specs.declared.Seen.{Seen}
 use Rattle.scan.proofs.Listing.{wholes, entries-length, entries-those}

@@ -3,7 +3,7 @@ use Prim.Native.Nat.{ℕ}
 use mathlib.Core.Path.{_≡_}
 use mathlib.Core.Bool.{Bool, true, not, cond, _&&_}
 use mathlib.Core.List.{List, [], _∷_}
-use lib.ListN.{length}
+use lib.ListN.{length, take}
 use lib.Dec.{eqb, ltb}
 use Rattle.model.specs.Page.{pageAt}
 use Rattle.model.specs.Bytes.{le16}
@@ -21,6 +21,15 @@ unfoldable pub risesFrom : List ℕ → ℕ → ℕ → List ℕ → Bool
 risesFrom xs at last [] = true
 risesFrom xs at last (k ∷ ks) = cond (markAt xs k) (ltb last (keyAt xs at k) && risesFrom xs at (keyAt xs at k) ks) (risesFrom xs at last ks)
 
+-- the marks among the pages whose notes are from lo to hi differ in that number: it rises along them once they are sorted by it
+abbrev pub differ : List ℕ → ℕ → ℕ → ℕ → List ℕ → Bool
+differ xs lo hi at ks = risesFrom xs at 0 (sortedBy xs at (noted xs lo hi ks))
+
+-- what was told of that, and those pages in front of the list
+pub record Sorting (xs : List ℕ) (lo hi at : ℕ) (ks : List ℕ) (r : Bool) (after : List ℕ) : Type 0 where
+  pub told : r ≡ differ xs lo hi at ks
+  pub front : take (length (noted xs lo hi ks)) after ≡ sortedBy xs at (noted xs lo hi ks)
+
 -- the pages of changes, sorted by TxID; those of one in scan order
 unfoldable pub changesOf : List ℕ → List ℕ → List ℕ
 changesOf xs ks = sortedBy xs 516 (noted xs 1 2 ks)
@@ -32,7 +41,7 @@ pub record Visited (xs order notes other : List ℕ) : Type 0 where
   pub room : length other ≡ length order
 
 -- all pages of the blocks were visited, and met so
-pub record Scanned (logical : ℕ) (xs : List ℕ) (p : ℕ) (bs order notes other : List ℕ) (m : Seen) : Type 0 where
+pub record Surveyed (logical : ℕ) (xs : List ℕ) (p : ℕ) (bs order notes other : List ℕ) (m : Seen) : Type 0 where
   pub blocks : Blocks xs p bs
   pub list : order ≡ listed p bs
   pub visit : Visited xs order notes other

@@ -1,7 +1,7 @@
 -- The pages of a scan by their numbers, and what is taken from each: its entry, by the 528 bytes of the page alone.
 use Prim.Native.Nat.{ℕ, _+_, _*_, _≤_}
-use mathlib.Core.Path.{_≡_, refl, ap, sym, _∙_}
-use mathlib.Core.List.{List, [], _∷_, _++_, append-assoc}
+use mathlib.Core.Path.{_≡_, refl, ap}
+use mathlib.Core.List.{List, [], _∷_, _++_}
 use Rattle.model.specs.Lists.{keep, upFrom}
 use Rattle.model.specs.Page.{spareOf, isWhole, pageAt, wholeAt}
 use Rattle.model.specs.Zones.{Entry, entryOf, entryAt}

@@ -186,7 +186,7 @@ fn stack(table: &mut Table) {
             }
         }
         println!("| {what} | {deepest} |");
-        let limit = if what == "recover" { 32 } else { 24 } * 1024;
+        let limit = if what == "recover" { 56 } else { 24 } * 1024;
         table.hold(deepest < limit, &format!("{what} uses {deepest} bytes of stack, limit {limit}"));
     }
 }

@@ -1,13 +1,11 @@
 -- `recover::scan_pages` meets its contract, return by return. Assumes nothing.
-use mathlib.Core.Path.{_≡_, refl, sym, ap, _∙_}
-use Prim.Native.Nat.{ℕ, _+_, _*_, _≤_, _<_}
+use mathlib.Core.Path.{sym}
 use native.Mathlib.Omega.{arith}
-use lib.ListN.{length, take, getD}
+use lib.ListN.{length}
 use lib.Seq.{length-take-le}
 use borrow.Author.Tests.{not-true, not-false}
 use Rattle.model.specs.Zones.{scanIn}
-use Rattle.scan.specs.Taken.{listed}
-use Rattle.scan.proofs.Loops.{listed-length, listed-pages}
+use Rattle.scan.proofs.Loops.{listed-pages}
 use Rattle.recover.proofs.Plans.{blocks-in, scan-met, changes-few, redo-ready, top-met, scan-refused, scan-passed}
 use borrow.Author.Needs.{needs}
 use Rattle.recover.proofs.scan_pages.Statement.{statement}
@@ -16,6 +14,7 @@ use Rattle.recovery.proofs.redo.Reads as redo-reads
 use Rattle.scan.proofs.list.Reads as list-reads
 use Rattle.scan.proofs.pages_good.Reads as pages-good-reads
 use Rattle.scan.proofs.visit.Reads as visit-reads
+use Rattle.sorting.proofs.copy.Reads as copy-reads
 
 cast-pages : tie.Need-cast-pages
 cast-pages c = search needs
@@ -32,8 +31,7 @@ visit-requires c κs =
     let a = c .before .before .before .before .before .before .before .before .before .before .before .before .before .before .args in
     let h = c .before .before .before .before .before .before .before .before .before .before .before .before .before .before .pre .0 in
     let l = c .before .before .before .before .before .before .before .before .before .before .before .before .before .before .pre .1 in
-    let e = c .before .before .before .before .list .ensures in
-    (rw e (listed-pages (a .array .now) (a .g .pages) (a .bs .now) (blocks-in (a .g) (a .array .now) (a .map .now) (a .bs .now) (a .entries .now) h)), omega (arith, l .noted, c .before .before .before .order .given, l .pages))
+    (rw (c .before .before .before .before .list .ensures) (listed-pages (a .array .now) (a .g .pages) (a .bs .now) (blocks-in (a .g) (a .array .now) (a .map .now) (a .bs .now) (a .entries .now) h)), omega (arith, l .noted, c .before .before .before .order .given, l .pages))
 
 pages-good-requires : tie.Need-pages-good-requires
 pages-good-requires c κs =
@@ -61,52 +59,59 @@ returns c =
     let r = c .before .before .before .before .before .pages-good in
     scan-refused (a .g .logical) (scanIn (a .array .now) (a .g .pages) (a .bs .now)) (a .floor) (a .entries .now) (a .map .now) (r .result) (r .ensures .0) (not-true _ (c .if1 .taken))
 
-fill-requires : tie.Need-fill-requires
-fill-requires c κs =
+slice-aggregate-copy : tie.Need-slice-aggregate-copy
+slice-aggregate-copy c =
     let a = c .before .before .before .before .before .before .before .before .before .before .before .before .before .before .before .before .before .before .before .before .before .before .before .before .before .before .before .args in
     let h = c .before .before .before .before .before .before .before .before .before .before .before .before .before .before .before .before .before .before .before .before .before .before .before .before .before .before .before .pre .0 in
     let l = c .before .before .before .before .before .before .before .before .before .before .before .before .before .before .before .before .before .before .before .before .before .before .before .before .before .before .before .pre .1 in
-    omega (arith, h .mapped, h .enough)
+    sym (length-take-le (length (a .map .now)) (a .entries .now) (omega (arith, h .mapped, h .enough)))
+
+copy-requires : tie.Need-copy-requires
+copy-requires c κs =
+    let a = c .before .before .before .before .before .before .before .before .before .before .before .before .before .before .before .before .before .before .before .before .before .before .before .before .before .before .before .before .args in
+    let h = c .before .before .before .before .before .before .before .before .before .before .before .before .before .before .before .before .before .before .before .before .before .before .before .before .before .before .before .before .pre .0 in
+    let l = c .before .before .before .before .before .before .before .before .before .before .before .before .before .before .before .before .before .before .before .before .before .before .before .before .before .before .before .before .pre .1 in
+    length-take-le (length (a .map .now)) (a .entries .now) (omega (arith, h .mapped, h .enough))
 
 cast-n : tie.Need-cast-n
 cast-n c = search needs
 
 slice-reshare-prefix-redo : tie.Need-slice-reshare-prefix-redo
 slice-reshare-prefix-redo c =
-    let a = c .before .before .before .before .before .before .before .before .before .before .before .before .before .before .before .before .before .before .before .before .before .before .before .before .before .before .before .before .before .before .before .before .args in
-    let h = c .before .before .before .before .before .before .before .before .before .before .before .before .before .before .before .before .before .before .before .before .before .before .before .before .before .before .before .before .before .before .before .before .pre .0 in
-    let l = c .before .before .before .before .before .before .before .before .before .before .before .before .before .before .before .before .before .before .before .before .before .before .before .before .before .before .before .before .before .before .before .before .pre .1 in
-    let s = c .before .before .before .before .before .before .before .before .before .before .before .before .before .before .before .before .before .visit .result in
-    let e = c .before .before .before .before .before .before .before .before .before .before .before .before .before .before .before .before .before .visit .ensures in
-    omega (arith, changes-few (a .g) (a .array .now) (a .map .now) (a .bs .now) (a .entries .now) h _ s (e .0), c .before .before .before .before .before .before .before .before .before .before .order2 .given)
-
-slice-aggregate-redo : tie.Need-slice-aggregate-redo
-slice-aggregate-redo c =
     let a = c .before .before .before .before .before .before .before .before .before .before .before .before .before .before .before .before .before .before .before .before .before .before .before .before .before .before .before .before .before .before .before .before .before .args in
     let h = c .before .before .before .before .before .before .before .before .before .before .before .before .before .before .before .before .before .before .before .before .before .before .before .before .before .before .before .before .before .before .before .before .before .pre .0 in
     let l = c .before .before .before .before .before .before .before .before .before .before .before .before .before .before .before .before .before .before .before .before .before .before .before .before .before .before .before .before .before .before .before .before .before .pre .1 in
     let s = c .before .before .before .before .before .before .before .before .before .before .before .before .before .before .before .before .before .before .visit .result in
     let e = c .before .before .before .before .before .before .before .before .before .before .before .before .before .before .before .before .before .before .visit .ensures in
-    sym (length-take-le (s .changes) _ (omega (arith, changes-few (a .g) (a .array .now) (a .map .now) (a .bs .now) (a .entries .now) h _ s (e .0), c .before .before .before .before .before .before .before .before .before .before .before .order2 .given)))
+    omega (arith, changes-few (a .g) (a .array .now) (a .map .now) (a .bs .now) (a .entries .now) h _ s (e .0), c .before .before .before .before .before .before .before .before .before .before .before .order2 .given)
+
+slice-aggregate-redo : tie.Need-slice-aggregate-redo
+slice-aggregate-redo c =
+    let a = c .before .before .before .before .before .before .before .before .before .before .before .before .before .before .before .before .before .before .before .before .before .before .before .before .before .before .before .before .before .before .before .before .before .before .args in
+    let h = c .before .before .before .before .before .before .before .before .before .before .before .before .before .before .before .before .before .before .before .before .before .before .before .before .before .before .before .before .before .before .before .before .before .before .pre .0 in
+    let l = c .before .before .before .before .before .before .before .before .before .before .before .before .before .before .before .before .before .before .before .before .before .before .before .before .before .before .before .before .before .before .before .before .before .before .pre .1 in
+    let s = c .before .before .before .before .before .before .before .before .before .before .before .before .before .before .before .before .before .before .before .visit .result in
+    let e = c .before .before .before .before .before .before .before .before .before .before .before .before .before .before .before .before .before .before .before .visit .ensures in
+    sym (length-take-le (s .changes) _ (omega (arith, changes-few (a .g) (a .array .now) (a .map .now) (a .bs .now) (a .entries .now) h _ s (e .0), c .before .before .before .before .before .before .before .before .before .before .before .before .order2 .given)))
 
 redo-requires : tie.Need-redo-requires
 redo-requires c κs =
-    let a = c .before .before .before .before .before .before .before .before .before .before .before .before .before .before .before .before .before .before .before .before .before .before .before .before .before .before .before .before .before .before .before .before .before .before .before .args in
-    let h = c .before .before .before .before .before .before .before .before .before .before .before .before .before .before .before .before .before .before .before .before .before .before .before .before .before .before .before .before .before .before .before .before .before .before .before .pre .0 in
-    let l = c .before .before .before .before .before .before .before .before .before .before .before .before .before .before .before .before .before .before .before .before .before .before .before .before .before .before .before .before .before .before .before .before .before .before .before .pre .1 in
-    let s = c .before .before .before .before .before .before .before .before .before .before .before .before .before .before .before .before .before .before .before .before .visit .result in
-    let e = c .before .before .before .before .before .before .before .before .before .before .before .before .before .before .before .before .before .before .before .before .visit .ensures in
-    let r = c .before .before .before .before .before .before .before .before .before .before .before .before .before .before .pages-good in
-    let ok = not-false _ (c .before .before .before .before .before .before .before .before .before .if1 .left) in (
-      redo-ready (a .g) (a .array .now) (a .map .now) (a .bs .now) (a .entries .now) h (r .result) (r .ensures .0) ok _ (c .before .before .before .before .before .before .before .fill .ensures) _ _ _ _ (c .before .before .before .before .before .before .before .before .before .before .before .before .before .before .before .before .before .before .before .before .before .before .before .before .before .list .ensures) (omega (arith, l .room, c .before .before .before .before .before .before .before .before .before .before .before .other .given)) (e .1) (r .ensures .1 ok),
-      top-met (a .g) (a .array .now) (a .map .now) (a .bs .now) (a .entries .now) h (r .result) (r .ensures .0) ok _ (c .before .before .before .before .before .before .before .before .before .before .before .before .before .before .before .before .before .before .before .before .before .before .before .before .before .list .ensures) s (e .0),
+    let a = c .before .before .before .before .before .before .before .before .before .before .before .before .before .before .before .before .before .before .before .before .before .before .before .before .before .before .before .before .before .before .before .before .before .before .before .before .args in
+    let h = c .before .before .before .before .before .before .before .before .before .before .before .before .before .before .before .before .before .before .before .before .before .before .before .before .before .before .before .before .before .before .before .before .before .before .before .before .pre .0 in
+    let l = c .before .before .before .before .before .before .before .before .before .before .before .before .before .before .before .before .before .before .before .before .before .before .before .before .before .before .before .before .before .before .before .before .before .before .before .before .pre .1 in
+    let s = c .before .before .before .before .before .before .before .before .before .before .before .before .before .before .before .before .before .before .before .before .before .visit .result in
+    let e = c .before .before .before .before .before .before .before .before .before .before .before .before .before .before .before .before .before .before .before .before .before .visit .ensures in
+    let r = c .before .before .before .before .before .before .before .before .before .before .before .before .before .before .before .pages-good in
+    let ok = not-false _ (c .before .before .before .before .before .before .before .before .before .before .if1 .left) in (
+      redo-ready (a .g) (a .array .now) (a .map .now) (a .bs .now) (a .entries .now) h (r .result) (r .ensures .0) ok _ (c .before .before .before .before .before .before .before .copy .ensures) _ _ _ _ (c .before .before .before .before .before .before .before .before .before .before .before .before .before .before .before .before .before .before .before .before .before .before .before .before .before .before .list .ensures) (omega (arith, l .room, c .before .before .before .before .before .before .before .before .before .before .before .before .other .given)) (e .1) (r .ensures .1 ok),
+      top-met (a .g) (a .array .now) (a .map .now) (a .bs .now) (a .entries .now) h (r .result) (r .ensures .0) ok _ (c .before .before .before .before .before .before .before .before .before .before .before .before .before .before .before .before .before .before .before .before .before .before .before .before .before .before .list .ensures) s (e .0),
     )
 
 same-length-4 : tie.Need-same-length-4
 same-length-4 c = search needs
 
 same-length-5 : tie.Need-same-length-5
-same-length-5 c = omega (arith, c .before .before .before .before .before .before .before .before .before .before .before .before .before .before .before .before .before .before .order2 .given, c .before .before .before .before .before .before .before .before .before .before .before .before .before .before .before .before .before .before .before .before .before .before .before .before .before .before .before .before .before .order .given)
+same-length-5 c = omega (arith, c .before .before .before .before .before .before .before .before .before .before .before .before .before .before .before .before .before .before .before .order2 .given, c .before .before .before .before .before .before .before .before .before .before .before .before .before .before .before .before .before .before .before .before .before .before .before .before .before .before .before .before .before .before .order .given)
 
 same-length-6 : tie.Need-same-length-6
 same-length-6 c = search needs
@@ -116,15 +121,15 @@ same-length-7 c = search needs
 
 returns-2 : tie.Need-returns-2
 returns-2 c =
-    let a = c .before .before .before .before .before .before .before .before .before .before .before .before .before .before .before .before .before .before .before .before .before .before .before .before .before .before .before .before .before .before .before .before .before .before .before .before .before .before .before .before .args in
-    let h = c .before .before .before .before .before .before .before .before .before .before .before .before .before .before .before .before .before .before .before .before .before .before .before .before .before .before .before .before .before .before .before .before .before .before .before .before .before .before .before .before .pre .0 in
-    let l = c .before .before .before .before .before .before .before .before .before .before .before .before .before .before .before .before .before .before .before .before .before .before .before .before .before .before .before .before .before .before .before .before .before .before .before .before .before .before .before .before .pre .1 in
-    let s = c .before .before .before .before .before .before .before .before .before .before .before .before .before .before .before .before .before .before .before .before .before .before .before .before .before .visit .result in
-    let e = c .before .before .before .before .before .before .before .before .before .before .before .before .before .before .before .before .before .before .before .before .before .before .before .before .before .visit .ensures in
-    let r = c .before .before .before .before .before .before .before .before .before .before .before .before .before .before .before .before .before .before .before .pages-good in
-    let ok = not-false _ (c .before .before .before .before .before .before .before .before .before .before .before .before .before .before .if1 .left) in
-    scan-passed (a .g .logical) (scanIn (a .array .now) (a .g .pages) (a .bs .now)) (a .floor) (a .entries .now) (a .map .now) (r .result) (r .ensures .0) ok (s .top) (top-met (a .g) (a .array .now) (a .map .now) (a .bs .now) (a .entries .now) h (r .result) (r .ensures .0) ok _ (c .before .before .before .before .before .before .before .before .before .before .before .before .before .before .before .before .before .before .before .before .before .before .before .before .before .before .before .before .before .before .list .ensures) s (e .0))
-    (h .mapped) _ (c .before .before .before .before .before .before .before .before .before .before .before .before .fill .ensures) _ (c .before .before .before .before .redo .ensures)
+    let a = c .before .before .before .before .before .before .before .before .before .before .before .before .before .before .before .before .before .before .before .before .before .before .before .before .before .before .before .before .before .before .before .before .before .before .before .before .before .before .before .before .before .args in
+    let h = c .before .before .before .before .before .before .before .before .before .before .before .before .before .before .before .before .before .before .before .before .before .before .before .before .before .before .before .before .before .before .before .before .before .before .before .before .before .before .before .before .before .pre .0 in
+    let l = c .before .before .before .before .before .before .before .before .before .before .before .before .before .before .before .before .before .before .before .before .before .before .before .before .before .before .before .before .before .before .before .before .before .before .before .before .before .before .before .before .before .pre .1 in
+    let s = c .before .before .before .before .before .before .before .before .before .before .before .before .before .before .before .before .before .before .before .before .before .before .before .before .before .before .visit .result in
+    let e = c .before .before .before .before .before .before .before .before .before .before .before .before .before .before .before .before .before .before .before .before .before .before .before .before .before .before .visit .ensures in
+    let r = c .before .before .before .before .before .before .before .before .before .before .before .before .before .before .before .before .before .before .before .before .pages-good in
+    let ok = not-false _ (c .before .before .before .before .before .before .before .before .before .before .before .before .before .before .before .if1 .left) in
+    scan-passed (a .g .logical) (scanIn (a .array .now) (a .g .pages) (a .bs .now)) (a .floor) (a .entries .now) (a .map .now) (r .result) (r .ensures .0) ok (s .top) (top-met (a .g) (a .array .now) (a .map .now) (a .bs .now) (a .entries .now) h (r .result) (r .ensures .0) ok _ (c .before .before .before .before .before .before .before .before .before .before .before .before .before .before .before .before .before .before .before .before .before .before .before .before .before .before .before .before .before .before .before .list .ensures) s (e .0))
+    (h .mapped) _ (c .before .before .before .before .before .before .before .before .before .before .before .before .copy .ensures) _ (c .before .before .before .before .redo .ensures)
 
 pub scan-pages-spec : {M : Type 1} → statement M
 scan-pages-spec =
@@ -138,7 +143,8 @@ scan-pages-spec =
     same-length-2
     same-length-3
     returns
-    fill-requires
+    slice-aggregate-copy
+    copy-requires
     cast-n
     slice-reshare-prefix-redo
     slice-aggregate-redo

@@ -1,9 +1,7 @@
 -- `recovery::enter` meets its contract, return by return. Assumes nothing.
-use mathlib.Core.Path.{_≡_, refl, sym, ap, _∙_}
-use Prim.Native.Nat.{ℕ, _+_, _-_, _*_, _≤_, _<_}
+use mathlib.Core.Path.{sym, ap, _∙_}
+use Prim.Native.Nat.{_-_}
 use native.Mathlib.Omega.{arith}
-use mathlib.Core.List.{List}
-use lib.ListN.{length, set, getD}
 use Rattle.model.specs.Bytes.{le16}
 use Rattle.model.specs.Page.{pageAt}
 use Rattle.scan.specs.Taken.{entryIn}
@@ -16,8 +14,8 @@ use Rattle.recovery.proofs.enter.Tie as tie
 use Rattle.flash.proofs.page_of.Reads as page-of-reads
 use Rattle.page.proofs.word16.Reads as word16-reads
 
-wide-requires : tie.Need-wide-requires
-wide-requires c κs = search needs
+wide16-requires : tie.Need-wide16-requires
+wide16-requires c κs = search needs
 
 page-of-requires : tie.Need-page-of-requires
 page-of-requires c κs = search needs
@@ -25,8 +23,8 @@ page-of-requires c κs = search needs
 word16-requires : tie.Need-word16-requires
 word16-requires c κs = search needs
 
-wide-requires-2 : tie.Need-wide-requires-2
-wide-requires-2 c κs = search needs
+wide16-requires-2 : tie.Need-wide16-requires-2
+wide16-requires-2 c κs = search needs
 
 mul-if1 : tie.Need-mul-if1
 mul-if1 c = search needs
@@ -34,14 +32,14 @@ mul-if1 c = search needs
 slice-read-if1 : tie.Need-slice-read-if1
 slice-read-if1 c =
     let a = c .before .before .before .before .before .before .before .before .args in
-    let e = c .before .wide2 .ensures ∙ c .before .before .word16 .ensures ∙ ap (λ q. le16 q 512) (c .before .before .before .page-of .ensures .0 ∙ ap (pageAt (a .array .now)) (c .before .before .before .before .wide .ensures)) ∙ field-lpn (a .array .now) (a .k) in
+    let e = c .before .wide162 .ensures ∙ c .before .before .word16 .ensures ∙ ap (λ q. le16 q 512) (c .before .before .before .page-of .ensures .0 ∙ ap (pageAt (a .array .now)) (c .before .before .before .before .wide16 .ensures)) ∙ field-lpn (a .array .now) (a .k) in
     let h = c .before .before .before .before .before .before .before .before .pre .1 in
     omega (arith, e, h .0, h .1)
 
 returns : tie.Need-returns
 returns c =
     let a = c .before .before .before .before .before .before .before .before .before .args in
-    let e = c .before .before .wide2 .ensures ∙ c .before .before .before .word16 .ensures ∙ ap (λ q. le16 q 512) (c .before .before .before .before .page-of .ensures .0 ∙ ap (pageAt (a .array .now)) (c .before .before .before .before .before .wide .ensures)) ∙ field-lpn (a .array .now) (a .k) in
+    let e = c .before .before .wide162 .ensures ∙ c .before .before .before .word16 .ensures ∙ ap (λ q. le16 q 512) (c .before .before .before .before .page-of .ensures .0 ∙ ap (pageAt (a .array .now)) (c .before .before .before .before .before .wide16 .ensures)) ∙ field-lpn (a .array .now) (a .k) in
     let h = c .before .before .before .before .before .before .before .before .before .pre .1 in
     sym (enter-out (a .v) (entryIn (a .array .now) (a .k)) (best (a .map .now) (a .bests .now)) (rw (← e) (c .if1 .taken)))
 
@@ -51,7 +49,7 @@ mul-bests c = search needs
 slice-write-bests : tie.Need-slice-write-bests
 slice-write-bests c =
     let a = c .before .before .before .before .before .before .before .before .before .args in
-    let e = c .before .before .wide2 .ensures ∙ c .before .before .before .word16 .ensures ∙ ap (λ q. le16 q 512) (c .before .before .before .before .page-of .ensures .0 ∙ ap (pageAt (a .array .now)) (c .before .before .before .before .before .wide .ensures)) ∙ field-lpn (a .array .now) (a .k) in
+    let e = c .before .before .wide162 .ensures ∙ c .before .before .before .word16 .ensures ∙ ap (λ q. le16 q 512) (c .before .before .before .before .page-of .ensures .0 ∙ ap (pageAt (a .array .now)) (c .before .before .before .before .before .wide16 .ensures)) ∙ field-lpn (a .array .now) (a .k) in
     let h = c .before .before .before .before .before .before .before .before .before .pre .1 in
     omega (arith, e, h .0, h .1)
 
@@ -61,7 +59,7 @@ mul-map c = search needs
 slice-write-map : tie.Need-slice-write-map
 slice-write-map c =
     let a = c .before .before .before .before .before .before .before .before .before .args in
-    let e = c .before .before .wide2 .ensures ∙ c .before .before .before .word16 .ensures ∙ ap (λ q. le16 q 512) (c .before .before .before .before .page-of .ensures .0 ∙ ap (pageAt (a .array .now)) (c .before .before .before .before .before .wide .ensures)) ∙ field-lpn (a .array .now) (a .k) in
+    let e = c .before .before .wide162 .ensures ∙ c .before .before .before .word16 .ensures ∙ ap (λ q. le16 q 512) (c .before .before .before .before .page-of .ensures .0 ∙ ap (pageAt (a .array .now)) (c .before .before .before .before .before .wide16 .ensures)) ∙ field-lpn (a .array .now) (a .k) in
     let h = c .before .before .before .before .before .before .before .before .before .pre .1 in
     omega (arith, e, h .0)
 
@@ -74,7 +72,7 @@ same-length-2 c = search needs
 returns-2 : tie.Need-returns-2
 returns-2 c =
     let a = c .before .before .before .before .before .before .before .before .before .args in
-    let e = c .before .before .wide2 .ensures ∙ c .before .before .before .word16 .ensures ∙ ap (λ q. le16 q 512) (c .before .before .before .before .page-of .ensures .0 ∙ ap (pageAt (a .array .now)) (c .before .before .before .before .before .wide .ensures)) ∙ field-lpn (a .array .now) (a .k) in
+    let e = c .before .before .wide162 .ensures ∙ c .before .before .before .word16 .ensures ∙ ap (λ q. le16 q 512) (c .before .before .before .before .page-of .ensures .0 ∙ ap (pageAt (a .array .now)) (c .before .before .before .before .before .wide16 .ensures)) ∙ field-lpn (a .array .now) (a .k) in
     let h = c .before .before .before .before .before .before .before .before .before .pre .1 in
     sym (enter-in (a .v) (entryIn (a .array .now) (a .k)) (best (a .map .now) (a .bests .now)) (rw (← e) (omega (arith, c .if1 .left))) ∙ rw (← e, field-ppn (a .array .now) (a .k)))
 
@@ -82,10 +80,10 @@ pub enter-spec : {M : Type 1} → statement M
 enter-spec =
     tie.close
     (tie.spec
-    wide-requires
+    wide16-requires
     page-of-requires
     word16-requires
-    wide-requires-2
+    wide16-requires-2
     mul-if1
     slice-read-if1
     returns

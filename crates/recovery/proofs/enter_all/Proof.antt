@@ -1,13 +1,10 @@
 -- `recovery::enter_all` meets its contract. Assumes nothing.
-use mathlib.Core.Path.{_≡_, refl, sym, ap, _∙_}
-use Prim.Native.Nat.{ℕ, suc, _+_, _-_, _*_, _≤_, _<_}
+use mathlib.Core.Path.{sym, ap, _∙_}
+use Prim.Native.Nat.{_-_}
 use native.Mathlib.Omega.{arith}
-use mathlib.Core.List.{List}
-use lib.ListN.{length, take, getD}
+use lib.ListN.{length}
 use lib.Seq.{length-take-le}
-use Rattle.model.specs.Zones.{Entry}
-use Rattle.ranks.specs.Pass.{Best, bestOf}
-use Rattle.scan.specs.Taken.{listed, entriesIn}
+use Rattle.scan.specs.Taken.{listed}
 use Rattle.scan.proofs.Loops.{listed-length}
 use Rattle.scan.proofs.Picked.{length-notes}
 use Rattle.recovery.proofs.Redoing.{ready-changes, ready-lone, lone-enter}

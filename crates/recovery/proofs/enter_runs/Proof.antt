@@ -1,15 +1,14 @@
 -- `recovery::enter_runs` meets its contract. The loop's invariant: the runs before page i are entered. Assumes nothing.
-use mathlib.Core.Path.{_≡_, refl, sym, ap, _∙_}
-use Prim.Native.Nat.{ℕ, _+_, _-_, _*_, _≤_, _<_}
+use mathlib.Core.Path.{_≡_, refl, ap, _∙_}
+use Prim.Native.Nat.{ℕ, _-_, _≤_, _<_}
 use native.Mathlib.Omega.{arith}
 use mathlib.Core.List.{List}
-use lib.ListN.{length, take, getD}
+use lib.ListN.{length, take}
 use lib.Seq.{take-all}
-use Rattle.model.specs.Zones.{Entry}
-use Rattle.ranks.specs.Pass.{Best, bestOf}
+use Rattle.ranks.specs.Pass.{bestOf}
 use Rattle.ranks.specs.Best.{rankOf}
 use Rattle.scan.specs.Taken.{entriesIn}
-use Rattle.recovery.specs.Redo.{best, runVersion}
+use Rattle.recovery.specs.Redo.{best}
 use Rattle.recovery.proofs.Entering.{part-enterable}
 use Rattle.recovery.proofs.Running.{Bound, run-step, run-bound}
 use Rattle.recovery.proofs.enter_runs.Statement.{statement}

@@ -1,8 +1,7 @@
 -- `recovery::redo` meets its contract, return by return. Assumes nothing.
-use mathlib.Core.Path.{_≡_, refl, sym, ap, _∙_}
-use Prim.Native.Nat.{ℕ, _+_, _≤_, _<_}
+use mathlib.Core.Path.{sym}
+use Prim.Native.Nat.{_+_}
 use native.Mathlib.Omega.{arith}
-use lib.ListN.{length, getD}
 use Rattle.model.specs.Zones.{scanIn}
 use Rattle.recovery.proofs.Redoing.{redo-none, first-length, redo-all}
 use borrow.Author.Needs.{needs}

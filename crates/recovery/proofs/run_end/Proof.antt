@@ -1,8 +1,7 @@
 -- `recovery::run_end` meets its contract. The loop's invariant: the pages from i to before j have the identifier. Assumes nothing.
-use mathlib.Core.Path.{_≡_, refl, sym, ap, _∙_}
-use Prim.Native.Nat.{ℕ, _+_, _-_, _*_, _≤_, _<_}
+use mathlib.Core.Path.{_≡_, sym, _∙_}
+use Prim.Native.Nat.{ℕ, _-_, _≤_, _<_}
 use native.Mathlib.Omega.{arith}
-use mathlib.Core.Logic.{_⊎_, inl, inr}
 use lib.ListN.{length, getD}
 use Rattle.sorting.specs.Sort.{keyAt}
 use Rattle.sorting.proofs.Laws.{page-fits}

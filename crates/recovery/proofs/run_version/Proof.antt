@@ -1,6 +1,6 @@
 -- `recovery::run_version` meets its contract. The loop's invariant: the version of the first i pages. Assumes nothing.
 use mathlib.Core.Path.{_≡_, refl, sym, ap, _∙_}
-use Prim.Native.Nat.{ℕ, _+_, _-_, _*_, _≤_, _<_, max}
+use Prim.Native.Nat.{ℕ, _-_, _≤_}
 use native.Mathlib.Omega.{arith}
 use lib.ListN.{length, take, getD}
 use lib.Seq.{take-all}
@@ -33,17 +33,17 @@ loop-holds : tie.Need-loop-holds Inv-loop μ-loop
 unfolding entriesIn those top
 loop-holds c = (omega arith, refl)
 
-mul-wide : tie.Need-mul-wide Inv-loop μ-loop
-mul-wide c = omega arith
+mul-wide16 : tie.Need-mul-wide16 Inv-loop μ-loop
+mul-wide16 c = omega arith
 
-shared-slice-read-wide : tie.Need-shared-slice-read-wide Inv-loop μ-loop
-shared-slice-read-wide c = omega arith
+shared-slice-read-wide16 : tie.Need-shared-slice-read-wide16 Inv-loop μ-loop
+shared-slice-read-wide16 c = omega arith
 
-wide-requires : tie.Need-wide-requires Inv-loop μ-loop
-wide-requires c κs = omega arith
+wide16-requires : tie.Need-wide16-requires Inv-loop μ-loop
+wide16-requires c κs = omega arith
 
 page-of-requires : tie.Need-page-of-requires Inv-loop μ-loop
-page-of-requires c κs = rw (c .wide .ensures) (page-fits _ (c .before .before .before .before .before .before .args .run .now) (c .before .before .before .loop .i) (c .before .before .before .before .before .before .pre) (omega arith))
+page-of-requires c κs = rw (c .wide16 .ensures) (page-fits _ (c .before .before .before .before .before .before .args .run .now) (c .before .before .before .loop .i) (c .before .before .before .before .before .before .pre) (omega arith))
 
 add-i : tie.Need-add-i Inv-loop μ-loop
 add-i c = omega arith
@@ -51,8 +51,8 @@ add-i c = omega arith
 word16-requires : tie.Need-word16-requires Inv-loop μ-loop
 word16-requires c κs = omega (arith, c .page-of .ensures .1)
 
-wide-requires-2 : tie.Need-wide-requires-2 Inv-loop μ-loop
-wide-requires-2 c κs = omega arith
+wide16-requires-2 : tie.Need-wide16-requires-2 Inv-loop μ-loop
+wide16-requires-2 c κs = omega arith
 
 loop-less : tie.Need-loop-less Inv-loop μ-loop
 loop-less c = omega arith
@@ -62,8 +62,8 @@ loop-again c =
     let a = c .before .before .before .before .before .before .before .before .before .before .args in
     let l = c .before .before .before .before .before .before .before .loop in
     let k = getD (a .run .now) (l .i) 0 in
-    let e = c .before .before .before .page-of .ensures .0 ∙ ap (pageAt (a .array .now)) (c .before .before .before .before .wide .ensures) in
-    let w = c .before .wide2 .ensures ∙ c .before .before .word16 .ensures ∙ ap (λ q. le16 q 514) e ∙ field-cnt (a .array .now) k in (
+    let e = c .before .before .before .page-of .ensures .0 ∙ ap (pageAt (a .array .now)) (c .before .before .before .before .wide16 .ensures) in
+    let w = c .before .wide162 .ensures ∙ c .before .before .word16 .ensures ∙ ap (λ q. le16 q 514) e ∙ field-cnt (a .array .now) k in (
       omega arith,
       l .inv .1 ∙ sym (version-same (λ (x : Entry). eqb (x .cnt) (length (a .run .now))) (a .array .now) (a .run .now) (l .i) (omega arith) (ne-eqb (entryIn (a .array .now) k .cnt) (length (a .run .now)) (λ q. c .if1 .taken (w ∙ q)))),
     )
@@ -82,8 +82,8 @@ loop-again-2 c =
     let a = c .before .before .before .before .before .before .before .before .before .before .before .before .args in
     let l = c .before .before .before .before .before .before .before .before .before .loop in
     let k = getD (a .run .now) (l .i) 0 in
-    let e = c .before .before .before .before .before .page-of .ensures .0 ∙ ap (pageAt (a .array .now)) (c .before .before .before .before .before .before .wide .ensures) in
-    let w = c .before .before .before .wide2 .ensures ∙ c .before .before .before .before .word16 .ensures ∙ ap (λ q. le16 q 514) e ∙ field-cnt (a .array .now) k in
+    let e = c .before .before .before .before .before .page-of .ensures .0 ∙ ap (pageAt (a .array .now)) (c .before .before .before .before .before .before .wide16 .ensures) in
+    let w = c .before .before .before .wide162 .ensures ∙ c .before .before .before .before .word16 .ensures ∙ ap (λ q. le16 q 514) e ∙ field-cnt (a .array .now) k in
     let u = c .before .word32 .ensures ∙ ap (λ q. le32 q 520) e ∙ field-ver (a .array .now) k in (
       omega arith,
       c .higher .ensures ∙ rw (l .inv .1, u)
@@ -104,13 +104,13 @@ run-version-spec =
     Inv-loop
     μ-loop
     loop-holds
-    mul-wide
-    shared-slice-read-wide
-    wide-requires
+    mul-wide16
+    shared-slice-read-wide16
+    wide16-requires
     page-of-requires
     add-i
     word16-requires
-    wide-requires-2
+    wide16-requires-2
     loop-less
     loop-again
     word32-requires
