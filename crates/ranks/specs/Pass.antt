@@ -9,7 +9,7 @@ use mathlib.Core.List.{List, [], _∷_, _++_}
 use lib.ListN.{length, getD, set, replicate, length-set, length-replicate, getD-replicate}
 use lib.Seq.{getD-set-same, getD-set-other, ext-getD}
 use lib.Dec.{eqb, leb}
-use borrow.Author.Tests.{leb-true, leb-false, le-leb, lt-leb, ne-eqb}
+use borrow.Author.Tests.{leb-true, leb-false, le-leb, ne-eqb}
 use Rattle.model.specs.Lists.{any, keep, those}
 use Rattle.model.specs.Geometry.{enterPage}
 use Rattle.model.specs.Zones.{Entry}
@@ -276,12 +276,6 @@ module _ (rank : Entry → ℕ) where
           enter-at l m xs h ∙ sym (climbs-win rank l least hi least (getD m l 0) xs (omega arith) c) ∙ win-same rank l least xs ys (getD m l 0) same ∙ sym w
 
   -- ---- for a program
-  -- pages that rank below what they meet are passed over
-  pub best-low : (es : List Entry) (r : Best) → Entries (λ (e : Entry). rank e < getD (r .ranks) (e .lpn) 0) es → bestOf rank es r ≡ r
-  unfolding bestOf enterBest
-  best-low [] r h = refl
-  best-low (e ∷ es) r h = rw (lt-leb (getD (r .ranks) (e .lpn) 0) (rank e) (h .0)) (best-low es r (h .1))
-
   -- one part after the other
   pub best-append : (xs ys : List Entry) (r : Best) → bestOf rank (xs ++ ys) r ≡ bestOf rank ys (bestOf rank xs r)
   unfolding bestOf

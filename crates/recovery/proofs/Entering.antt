@@ -1,13 +1,12 @@
 -- Pages entered one after the other, each where its rank is not below the best so far of its logical page. Assumes nothing.
 use mathlib.Core.Path.{_≡_, refl, sym, ap, _∙_}
-use mathlib.Core.Bool.{Bool, true, false, cond}
 use mathlib.Core.List.{List, [], _∷_, _++_}
 use Prim.Native.Nat.{ℕ, _+_, _*_, _≤_, _<_}
 use native.Mathlib.Omega.{arith}
 use native.Mathlib.Numerals.{add-one}
-use lib.ListN.{length, take, drop, getD, set, length-set, length-take, length-drop}
+use lib.ListN.{length, take, drop, getD, set, length-take, length-drop}
 use lib.Seq.{take-suc, take-all}
-use lib.Dec.{eqb, leb}
+use lib.Dec.{eqb}
 use borrow.Author.Tests.{le-leb, lt-leb}
 use Rattle.model.specs.Lists.{those}
 use Rattle.model.specs.Page.{spareOf}
@@ -69,16 +68,6 @@ pub best-ranks : (rank rank′ : Entry → ℕ) (es : List Entry) (r : Best) →
 unfolding bestOf enterBest
 best-ranks rank rank′ [] r h = refl
 best-ranks rank rank′ (e ∷ es) r h = rw (h .0) (best-ranks rank rank′ es _ (h .1))
-
--- there are as many ranks as before
-pub best-lengths : (rank : Entry → ℕ) (es : List Entry) (r : Best) → length (bestOf rank es r .ranks) ≡ length (r .ranks)
-unfolding bestOf enterBest
-best-lengths rank [] r = refl
-best-lengths rank (e ∷ es) r = best-lengths rank es (enterBest rank e r) ∙ go (leb (getD (r .ranks) (e .lpn) 0) (rank e))
-  where
-    go : (t : Bool) → length (cond t (record { map = set (r .map) (e .lpn) (e .ppn); ranks = set (r .ranks) (e .lpn) (rank e) }) r .ranks) ≡ length (r .ranks)
-    go true = length-set (r .ranks) (e .lpn) (rank e)
-    go false = refl
 
 -- ---- some of the pages, one after the other
 pub part-enterable : (xs ks map ranks : List ℕ) (n i : ℕ) → Enterable xs ks map ranks
