@@ -4,7 +4,6 @@ use borrow.Author.Needs.{needs}
 use Rattle.page.specs.Looking.{lookOf}
 use Rattle.flash.proofs.look_at.Statement.{statement}
 use Rattle.flash.proofs.look_at.Tie as tie
-use Rattle.page.proofs.look.Reads as look-reads
 
 page-of-requires : tie.Need-page-of-requires
 page-of-requires c κs = search needs

@@ -8,7 +8,6 @@ use Rattle.recover.proofs.Plans.{blocks-in}
 use borrow.Author.Needs.{needs}
 use Rattle.recover.proofs.scan_blocks.Statement.{statement}
 use Rattle.recover.proofs.scan_blocks.Tie as tie
-use Rattle.scan.proofs.size.Reads as size-reads
 
 -- the first k of n zeros
 first-of : (n k : ℕ) → k ≤ n → length (take k (replicate {A = ℕ} n 0)) ≡ k

@@ -10,11 +10,6 @@ use Rattle.recover.proofs.Plans.{blocks-in, scan-met, changes-few, redo
 use borrow.Author.Needs.{needs}
 use Rattle.recover.proofs.scan_pages.Statement.{statement}
 use Rattle.recover.proofs.scan_pages.Tie as tie
-use Rattle.recovery.proofs.redo.Reads as redo-reads
-use Rattle.scan.proofs.list.Reads as list-reads
-use Rattle.scan.proofs.pages_good.Reads as pages-good-reads
-use Rattle.scan.proofs.visit.Reads as visit-reads
-use Rattle.sorting.proofs.copy.Reads as copy-reads
 
 cast-pages : tie.Need-cast-pages
 cast-pages c = search needs

@@ -11,8 +11,6 @@ use Rattle.recovery.proofs.Entering.{enter-in, enter-out}
 use borrow.Author.Needs.{needs}
 use Rattle.recovery.proofs.enter.Statement.{statement}
 use Rattle.recovery.proofs.enter.Tie as tie
-use Rattle.flash.proofs.page_of.Reads as page-of-reads
-use Rattle.page.proofs.word16.Reads as word16-reads
 
 wide16-requires : tie.Need-wide16-requires
 wide16-requires c κs = search needs

@@ -11,8 +11,6 @@ use Rattle.recovery.proofs.Redoing.{ready-changes, ready-lone, lone-ent
 use borrow.Author.Needs.{needs}
 use Rattle.recovery.proofs.enter_all.Statement.{statement}
 use Rattle.recovery.proofs.enter_all.Tie as tie
-use Rattle.scan.proofs.list.Reads as list-reads
-use Rattle.scan.proofs.pick.Reads as pick-reads
 
 enter-runs-requires : tie.Need-enter-runs-requires
 enter-runs-requires c κs =

@@ -6,8 +6,6 @@ use Rattle.sorting.specs.Sort.{keyAt}
 use borrow.Author.Needs.{needs}
 use Rattle.recovery.proofs.id_of.Statement.{statement}
 use Rattle.recovery.proofs.id_of.Tie as tie
-use Rattle.flash.proofs.page_of.Reads as page-of-reads
-use Rattle.page.proofs.word32.Reads as word32-reads
 
 wide16-requires : tie.Need-wide16-requires
 wide16-requires c κs = search needs

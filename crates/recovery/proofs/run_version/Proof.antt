@@ -19,9 +19,6 @@ use Rattle.recovery.proofs.Fields.{field-cnt, field-ver}
 use Rattle.recovery.proofs.Running.{version-more, version-same}
 use Rattle.recovery.proofs.run_version.Statement.{statement}
 use Rattle.recovery.proofs.run_version.Tie as tie
-use Rattle.flash.proofs.page_of.Reads as page-of-reads
-use Rattle.page.proofs.word16.Reads as word16-reads
-use Rattle.page.proofs.word32.Reads as word32-reads
 
 abbrev Inv-loop : tie.InvT-loop
 Inv-loop array run v₀ i₀ v i = (i ≤ length run) × (v ≡ top (those (λ (e : Entry). eqb (e .cnt) (length run)) (entriesIn array (take i run))))
