@@ -12,15 +12,18 @@ use lib.Dec.{eqb}
 use lib.Bits.{bitAnd, and-le-l, and-le-r, and-self}
 use borrow.Author.Tests.{eqb-true, eqb-false, eq-eqb, ne-eqb}
 use lib.Count.{ones, ones-le, ones-cat}
+use Rattle.model.specs.Lists.{part}
 use Rattle.model.specs.Bytes.{zeroBits, allFF, le16, le32}
 use Rattle.arrays.specs.Tests.{not-so}
 use Rattle.arrays.specs.Bytelist.{zeroBits-append, zeroBits-le}
 use Rattle.page.specs.Words.{le64}
+use Rattle.page.specs.Counting.{spareFirst}
 
 -- ---- zero bits
--- the first i bytes have at most 8 * i
-pub zeroBits-take : (i : ℕ) (a : List ℕ) → zeroBits (take i a) ≤ 8 * i
-zeroBits-take i a = omega (arith, zeroBits-le (take i a), length-take i a)
+-- the spare area before Zeros and i bytes of the data have at most 8 a byte
+pub spare-first-le : (i : ℕ) (a : List ℕ) → spareFirst i a ≤ 8 * (14 + i)
+unfolding spareFirst part
+spare-first-le i a = omega (arith, zeroBits-le (take i a), length-take i a, zeroBits-le (take 14 (drop 512 a)), length-take 14 (drop 512 a))
 
 -- one byte more
 more8 : (a : List ℕ) (i : ℕ) → i < length a → zeroBits (take (i + 1) a) ≡ zeroBits (take i a) + (8 - ones (getD a i 0))

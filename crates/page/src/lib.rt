@@ -4,6 +4,7 @@ ghost use mathlib.Core.Path.{_≡_};
 ghost use Prim.Native.Nat.{_+_, _≤_, _<_};
 ghost use lib.ListN.{length, take, replicate};
 ghost use lib.Seq.{sets};
+ghost use Rattle.model.specs.Lists.{part};
 ghost use Rattle.model.specs.Bytes.{zeroBits, allFF, le16, le32, bytes16, bytes32};
 ghost use Rattle.model.specs.Page.{classOf, isWhole, spareOf, spareBytes, pageBytes};
 ghost use Rattle.page.specs.Words.{le64};
@@ -52,19 +53,28 @@ fn word64(page: &[u8], at: usize) -> u64
     low + 4294967296 * high
 }
 
-/// The zero bits of the 526 bytes before Zeros: 65 words of 64 bits, one of 32 and one of 16.
+/// The zero bits of the spare area before Zeros, offsets 512 to 525.
+fn spare_zeros(page: &[u8]) -> u32
+    requires { ⌜ length (now page) ≡ 528 ⌝ }
+    ensures { λ r. ⌜ r ≡ zeroBits (part 512 14 (now (page .entry))) ⌝ }
+{
+    let mut n = 64 - u64::count_ones(word64(page, Spare::LPN));
+    n += 32 - u32::count_ones(word32(page, Spare::VER));
+    n += 16 - u16::count_ones(word16(page, Spare::KIND));
+    n
+}
+
+/// The zero bits of the 526 bytes before Zeros: the spare area's first, then those of the data, 64 words of 64 bits.
 pub fn zeros(page: &[u8]) -> u16
     requires { ⌜ length (now page) ≡ 528 ⌝ }
     ensures { λ r. ⌜ r ≡ zeroBits (take 526 (now (page .entry))) ⌝ }
 {
-    let mut n: u32 = 0;
+    let mut n = spare_zeros(page);
     let mut w = 0;
-    while w < 65 {
+    while w < 64 {
         n += 64 - u64::count_ones(word64(page, w * 8));
         w += 1;
     }
-    n += 32 - u32::count_ones(word32(page, Spare::VER));
-    n += 16 - u16::count_ones(word16(page, Spare::KIND));
     n as u16
 }
 

@@ -29,8 +29,12 @@ fn erase_proved(block: &mut [u8]) {
 }
 
 // ---- plain Rust, byte by byte
+fn zeros_each(bytes: &[u8]) -> u32 {
+    bytes.iter().map(|b| b.count_zeros()).sum()
+}
+
 fn zeros_bytes(page: &[u8]) -> u32 {
-    page[..526].iter().map(|b| b.count_zeros()).sum()
+    zeros_each(&page[512..526]) + zeros_each(&page[..512])
 }
 
 #[inline(never)]
@@ -54,9 +58,9 @@ fn word(c: &[u8]) -> u64 {
 }
 
 fn zeros_words(page: &[u8]) -> u32 {
-    let words: u32 = page[..520].chunks_exact(8).map(|c| word(c).count_zeros()).sum();
-    let rest: u32 = page[520..526].iter().map(|b| b.count_zeros()).sum();
-    words + rest
+    let spare = word(&page[512..520]).count_zeros() + zeros_each(&page[520..526]);
+    let data: u32 = page[..512].chunks_exact(8).map(|c| word(c).count_zeros()).sum();
+    spare + data
 }
 
 #[inline(never)]

@@ -40,12 +40,13 @@ pub fn id_of(page: &Page) -> u32 {
     u32::from_le_bytes([page[516], page[517], page[518], page[519]])
 }
 
-/// The zero bits of the first 526 bytes.
+/// The zero bits of the first 526 bytes: those of the spare area before Zeros, then those of the data.
 fn zeros(page: &Page) -> u32 {
     let (words, _) = page.as_chunks::<8>();
-    let [words @ .., last] = words else { unreachable!("a page is 66 words") };
+    let [data @ .., first, last] = words else { unreachable!("a page is 66 words") };
     let before_zeros = u64::from_le_bytes(*last) | 0xFFFF << 48;
-    words.iter().map(|w| u64::from_le_bytes(*w).count_zeros()).sum::<u32>() + before_zeros.count_zeros()
+    let spare = u64::from_le_bytes(*first).count_zeros() + before_zeros.count_zeros();
+    spare + data.iter().map(|w| u64::from_le_bytes(*w).count_zeros()).sum::<u32>()
 }
 
 /// Whether Zeros agrees. On an erased page and on many a torn one Zeros is higher than any count, so that no bits need be counted.
