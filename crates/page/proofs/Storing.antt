@@ -1,13 +1,45 @@
--- What the stores of `program` leave, one after the other: the data, the spare area, Zeros. Assumes nothing.
+-- What the stores of `put_spare` leave, and those of `program`, one after the other: the data, the spare area, Zeros. Assumes nothing.
 use mathlib.Core.Path.{_≡_, refl, ap, _∙_}
-use mathlib.Core.List.{List, _++_, append-assoc, append-nil}
-use Prim.Native.Nat.{ℕ, _+_, _≤_}
+use mathlib.Core.List.{List, [], _∷_, _++_, append-assoc, append-nil}
+use Prim.Native.Nat.{ℕ, _+_, _*_, _/_, _%_, _≤_, _<_}
 use native.Mathlib.Omega.{arith}
 use lib.ListN.{length, take, drop, length-drop, length-append, drop-of-length-le}
 use lib.Seq.{take-all, take-at, drop-append-add, sets, sets-eq}
-use Rattle.model.specs.Bytes.{zeroBits, bytes16}
-use Rattle.model.specs.Page.{sealed}
+use Rattle.model.specs.Bytes.{zeroBits, bytes16, bytes32}
+use Rattle.model.specs.Page.{spareBytes, sealed}
+use Rattle.model.specs.declared.Spare.{Spare}
+use Rattle.page.specs.Words.{bytes64}
 
+-- ---- the spare area before Zeros in words: LPN, TxCnt and TxID; TxVer; Kind and Reserved
+halves : (l c : ℕ) → l < 65536 → bytes32 (l + 65536 * c) ≡ bytes16 l ++ bytes16 c
+halves l c h =
+    let x = l + 65536 * c in
+    let e : (x % 256 ≡ l % 256) × (x / 256 % 256 ≡ l / 256) × (x / 65536 % 256 ≡ c % 256) × (x / 16777216 ≡ c / 256) =
+    (omega arith, omega arith, omega arith, omega arith) in
+    rw (e .0, e .1, e .2, e .3)
+
+first-word : (l c i : ℕ) → l < 65536 → c < 65536 → bytes64 (l + 65536 * c + 4294967296 * i) ≡ bytes16 l ++ (bytes16 c ++ bytes32 i)
+first-word l c i hl hc =
+    let x = l + 65536 * c + 4294967296 * i in
+    let e : (x % 4294967296 ≡ l + 65536 * c) × (x / 4294967296 ≡ i) = (omega arith, omega arith) in
+    rw (e .0, e .1) (ap (λ t. t ++ bytes32 i) (halves l c hl))
+
+last-word : (k r : ℕ) → k < 256 → bytes16 (k + 256 * r) ≡ k ∷ r ∷ []
+last-word k r hk =
+    let low : (k + 256 * r) % 256 ≡ k = omega arith in
+    let high : (k + 256 * r) / 256 ≡ r = omega arith in
+    rw (low, high)
+
+-- p₁, p₂ and p₃ after each of them
+pub three-words : (s : Spare) (p p₁ p₂ p₃ : List ℕ) → s .lpn < 65536 → s .cnt < 65536 → s .kind < 256
+    → p₁ ≡ sets p 512 (bytes64 (s .lpn + 65536 * s .cnt + 4294967296 * s .id)) → p₂ ≡ sets p₁ 520 (bytes32 (s .ver))
+    → p₃ ≡ sets p₂ 524 (bytes16 (s .kind + 256 * s .reserved)) → p₃ ≡ sets p 512 (spareBytes s)
+three-words s p p₁ p₂ p₃ hl hc hk e₁ e₂ e₃ =
+    let f₁ : p₁ ≡ sets p 512 (bytes16 (s .lpn) ++ (bytes16 (s .cnt) ++ bytes32 (s .id))) = e₁ ∙ ap (sets p 512) (first-word (s .lpn) (s .cnt) (s .id) hl hc) in
+    let f₂ : p₂ ≡ sets p 512 (bytes16 (s .lpn) ++ (bytes16 (s .cnt) ++ (bytes32 (s .id) ++ bytes32 (s .ver)))) = e₂ ∙ ap (λ q. sets q 520 (bytes32 (s .ver))) f₁ in
+    e₃ ∙ ap (sets p₂ 524) (last-word (s .kind) (s .reserved) hk) ∙ ap (λ q. sets q 524 (s .kind ∷ s .reserved ∷ [])) f₂
+
+-- ---- the page
 -- a run of stores at the seam of two lists
 sets-at : (a b vs : List ℕ) (n : ℕ) → length a ≡ n → length vs ≤ length b → sets (a ++ b) n vs ≡ a ++ (vs ++ drop (length vs) b)
 sets-at a b vs n e h =

@@ -7,7 +7,7 @@ ghost use lib.Seq.{sets};
 ghost use Rattle.model.specs.Lists.{part};
 ghost use Rattle.model.specs.Bytes.{zeroBits, allFF, le16, le32, bytes16, bytes32};
 ghost use Rattle.model.specs.Page.{classOf, isWhole, spareOf, spareBytes, pageBytes};
-ghost use Rattle.page.specs.Words.{le64};
+ghost use Rattle.page.specs.Words.{le64, bytes64};
 ghost use Rattle.page.specs.Looking.{lookOf};
 use model::Class;
 use model::Spare;
@@ -69,13 +69,14 @@ pub fn zeros(page: &[u8]) -> u16
     requires { ⌜ length (now page) ≡ 528 ⌝ }
     ensures { λ r. ⌜ r ≡ zeroBits (take 526 (now (page .entry))) ⌝ }
 {
-    let mut n = spare_zeros(page);
+    let spare = spare_zeros(page);
+    let mut data: u32 = 0;
     let mut w = 0;
     while w < 64 {
-        n += 64 - u64::count_ones(word64(page, w * 8));
+        data += 64 - u64::count_ones(word64(page, w * 8));
         w += 1;
     }
-    n as u16
+    (spare + data) as u16
 }
 
 /// Whether all 528 bytes are 0xFF: the first word, then the bits that every word has.
@@ -169,17 +170,24 @@ fn put32(page: &mut [u8], at: usize, x: u32)
     page[at + 3] = (x / 16777216) as u8;
 }
 
-/// Stores the 14 bytes of the spare area before Zeros.
+/// Stores a number of 8 bytes at a place.
+fn put64(page: &mut [u8], at: usize, x: u64)
+    requires { ⌜ at + 8 ≤ length (now page) ⌝ }
+    ensures { λ _. ⌜ now (page .exit) ≡ sets (now (page .entry)) at (bytes64 x) ⌝ }
+{
+    put32(page, at, (x % 4294967296) as u32);
+    put32(page, at + 4, (x / 4294967296) as u32);
+}
+
+/// Stores the 14 bytes of the spare area before Zeros, in the words in which `spare_zeros` reads them: a word whose parts were just stored is slow to read.
 fn put_spare(page: &mut [u8], s: Spare)
     requires { ⌜ length (now page) ≡ 528 ⌝ }
     ensures { λ _. ⌜ now (page .exit) ≡ sets (now (page .entry)) 512 (spareBytes s) ⌝ }
 {
-    put16(page, Spare::LPN, s.lpn);
-    put16(page, Spare::CNT, s.cnt);
-    put32(page, Spare::ID, s.id);
+    let low = s.lpn as u64 + 65536 * (s.cnt as u64);
+    put64(page, Spare::LPN, low + 4294967296 * (s.id as u64));
     put32(page, Spare::VER, s.ver);
-    page[Spare::KIND] = s.kind;
-    page[Spare::RESERVED] = s.reserved;
+    put16(page, Spare::KIND, s.kind as u16 + 256 * (s.reserved as u16));
 }
 
 /// Programs a page: the data, the spare area, and Zeros counted from them.

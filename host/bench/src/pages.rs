@@ -29,12 +29,8 @@ fn erase_proved(block: &mut [u8]) {
 }
 
 // ---- plain Rust, byte by byte
-fn zeros_each(bytes: &[u8]) -> u32 {
-    bytes.iter().map(|b| b.count_zeros()).sum()
-}
-
 fn zeros_bytes(page: &[u8]) -> u32 {
-    zeros_each(&page[512..526]) + zeros_each(&page[..512])
+    page[..526].iter().map(|b| b.count_zeros()).sum()
 }
 
 #[inline(never)]
@@ -58,9 +54,9 @@ fn word(c: &[u8]) -> u64 {
 }
 
 fn zeros_words(page: &[u8]) -> u32 {
-    let spare = word(&page[512..520]).count_zeros() + zeros_each(&page[520..526]);
-    let data: u32 = page[..512].chunks_exact(8).map(|c| word(c).count_zeros()).sum();
-    spare + data
+    let words: u32 = page[..520].chunks_exact(8).map(|c| word(c).count_zeros()).sum();
+    let rest: u32 = page[520..526].iter().map(|b| b.count_zeros()).sum();
+    words + rest
 }
 
 #[inline(never)]

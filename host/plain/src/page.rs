@@ -67,14 +67,12 @@ pub fn program(page: &mut Page, data: &[u8], spare: Spare) {
     seal(page, spare);
 }
 
-/// Completes a page whose data stand in it already.
+/// Completes a page whose data stand in it already. The spare area is stored in the words in which it is counted.
 pub fn seal(page: &mut Page, spare: Spare) {
-    page[512..514].copy_from_slice(&spare.lpn.to_le_bytes());
-    page[514..516].copy_from_slice(&spare.count.to_le_bytes());
-    page[516..520].copy_from_slice(&spare.id.to_le_bytes());
-    page[520..524].copy_from_slice(&spare.version.to_le_bytes());
-    page[524] = spare.kind;
-    page[525] = spare.reserved;
+    let first = spare.lpn as u64 | (spare.count as u64) << 16 | (spare.id as u64) << 32;
+    let last = spare.version as u64 | (spare.kind as u64) << 32 | (spare.reserved as u64) << 40;
+    page[512..520].copy_from_slice(&first.to_le_bytes());
+    page[520..528].copy_from_slice(&last.to_le_bytes());
     let zeros = zeros(page) as u16;
     page[526..528].copy_from_slice(&zeros.to_le_bytes());
 }

@@ -1,5 +1,5 @@
--- `page::zeros` meets its contract. The loop's invariant: `n` counts the spare area before Zeros and the first `w` words of the data; after the last of them
--- that is the total (`spare-first`). Assumes nothing.
+-- `page::zeros` meets its contract. The loop's invariant: the spare area before Zeros and the first `w` words of the data are counted; after the last word that
+-- is the total (`spare-first`). Assumes nothing.
 use mathlib.Core.Path.{_≡_, ap, _∙_}
 use Prim.Native.Nat.{_≤_, _-_, _+_, _*_}
 use native.Mathlib.Omega.{arith}
@@ -12,10 +12,10 @@ use Rattle.page.proofs.zeros.Statement.{statement}
 use Rattle.page.proofs.zeros.Tie as tie
 
 abbrev Inv-loop : tie.InvT-loop
-Inv-loop page n₀ w₀ n w = (w ≤ 64) × (n ≡ spareFirst (w * 8) page)
+Inv-loop page spare data₀ w₀ «data» w = (w ≤ 64) × (spare + «data» ≡ spareFirst (w * 8) page)
 
 abbrev μ-loop : tie.MeasureT-loop
-μ-loop page n₀ w₀ n w = 64 - w
+μ-loop page spare data₀ w₀ «data» w = 64 - w
 
 spare-zeros-requires : tie.Need-spare-zeros-requires Inv-loop μ-loop
 spare-zeros-requires c κs = search needs
@@ -30,11 +30,11 @@ mul-word64 c = omega arith
 word64-requires : tie.Need-word64-requires Inv-loop μ-loop
 word64-requires c κs = search needs
 
-sub-n : tie.Need-sub-n Inv-loop μ-loop
-sub-n c = ones-le 64 (c .word64 .result) (omega arith)
+sub-data : tie.Need-sub-data Inv-loop μ-loop
+sub-data c = ones-le 64 (c .word64 .result) (omega arith)
 
-add-n : tie.Need-add-n Inv-loop μ-loop
-add-n c = omega (arith, spare-first-le (c .before .before .loop .w * 8) (c .before .before .before .before .before .args .page .now))
+add-data : tie.Need-add-data Inv-loop μ-loop
+add-data c = omega (arith, spare-first-le (c .before .before .loop .w * 8) (c .before .before .before .before .before .args .page .now))
 
 add-w : tie.Need-add-w Inv-loop μ-loop
 add-w c = omega arith
@@ -51,6 +51,9 @@ loop-again c =
       omega arith,
       rw e (omega (arith, more64 (known .before .args .page .now) (λ k. known .shared-slice-known .given k .fits) (w * 8) (omega arith), ap ones (c .word64 .ensures))),
     )
+
+add-result : tie.Need-add-result Inv-loop μ-loop
+add-result c = omega (arith, spare-first-le (c .before .loop .w * 8) (c .before .before .before .before .args .page .now))
 
 cast-result : tie.Need-cast-result Inv-loop μ-loop
 cast-result c = omega (arith, spare-first-le (c .before .loop .w * 8) (c .before .before .before .before .args .page .now))
@@ -71,10 +74,11 @@ zeros-spec =
     loop-holds
     mul-word64
     word64-requires
-    sub-n
-    add-n
+    sub-data
+    add-data
     add-w
     loop-less
     loop-again
+    add-result
     cast-result
     returns)

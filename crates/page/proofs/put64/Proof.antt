@@ -1,0 +1,38 @@
+-- `page::put64` meets its contract: two stores of 4 bytes, one after the other. Assumes nothing.
+use native.Mathlib.Numerals.{towards-suc}
+use borrow.Author.Needs.{needs}
+use Rattle.page.proofs.put64.Statement.{statement}
+use Rattle.page.proofs.put64.Tie as tie
+
+cast-put32 : tie.Need-cast-put32
+cast-put32 c = search needs
+
+put32-requires : tie.Need-put32-requires
+put32-requires c κs = search needs
+
+add-put32 : tie.Need-add-put32
+add-put32 c = search needs
+
+cast-put32-2 : tie.Need-cast-put32-2
+cast-put32-2 c = search needs
+
+put32-requires-2 : tie.Need-put32-requires-2
+put32-requires-2 c κs = search needs
+
+same-length : tie.Need-same-length
+same-length c = search needs
+
+returns : tie.Need-returns
+returns c = rw (c .before .before .put322 .ensures, c .before .before .before .before .before .before .put32 .ensures) (simp towards-suc)
+
+pub put64-spec : {M : Type 1} → statement M
+put64-spec =
+    tie.close
+    (tie.spec
+    cast-put32
+    put32-requires
+    add-put32
+    cast-put32-2
+    put32-requires-2
+    same-length
+    returns)
