@@ -53,7 +53,7 @@ fn word64(page: &[u8], at: usize) -> u64
     low + 4294967296 * high
 }
 
-/// The zero bits of the spare area before Zeros, offsets 512 to 525.
+/// The zero bits of the spare area before Zeros, offsets 512 to 525, in three words: LPN, TxCnt and TxID; TxVer; Kind and Reserved.
 fn spare_zeros(page: &[u8]) -> u32
     requires { ⌜ length (now page) ≡ 528 ⌝ }
     ensures { λ r. ⌜ r ≡ zeroBits (part 512 14 (now (page .entry))) ⌝ }

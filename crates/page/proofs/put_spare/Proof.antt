@@ -56,7 +56,8 @@ returns c =
     let ver = last .before .before .before .before .before .before in
     let first = ver .before .before .before .before in
     let a = first .before .before .before .before .before .before .args in
-    three-words (a .s) (a .page .now) _ _ _ (omega arith) (omega arith) (last .before .before .struct-known4 .given .1 .1 .1 .1 .0 .fits)
+    let kind = last .before .before .struct-known4 .given .1 .1 .1 .1 .0 in
+    three-words (a .s) (a .page .now) _ _ _ (omega arith) (omega arith) (kind .fits)
     (first .put64 .ensures)
     (ver .put32 .ensures)
     (last .put16 .ensures)
