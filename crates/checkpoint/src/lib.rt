@@ -1,10 +1,11 @@
 // The pages of a checkpoint, and the newest complete one.
 ghost use mathlib.Core.Path.{_≡_};
 ghost use mathlib.Core.Bool.{true, cond, _&&_};
-ghost use Prim.Native.Nat.{ℕ, _+_, _-_, _*_, _≤_, _<_};
+ghost use Prim.Native.Nat.{_+_, _-_, _*_, _≤_, _<_};
 ghost use lib.ListN.{length, getD};
 ghost use Rattle.model.specs.Geometry.{unmapped};
 ghost use Rattle.model.specs.Checkpoint.{mapBytes, mapSpare, zoneSpare, zoneData, sameSpare, pageIs, mapsAt, numberAt, completeAt, at, newer, newestFrom, newest};
+ghost use Rattle.table.specs.Counts.{counts};
 ghost use Rattle.blocks.specs.Blocks.{Counted};
 ghost use Rattle.checkpoint.specs.Found.{foundOf, Fronts};
 use model::Map;
@@ -116,27 +117,27 @@ fn same_spare(s: Spare, t: Spare) -> bool
     s.reserved == t.reserved
 }
 
-/// Whether page k is whole and has this spare area.
-fn page_is(array: &[u8], k: usize, s: Spare) -> bool
-    requires { ⌜ k * 528 + 528 ≤ length (now array) ⌝ }
+/// Whether page k is whole, its zero bits counted by the table, and has this spare area.
+fn page_is(array: &[u8], k: usize, s: Spare, t: &[u8; 256]) -> bool
+    requires { ⌜ (k * 528 + 528 ≤ length (now array)) × (now t ≡ counts 0 256) ⌝ }
     ensures { λ r. ⌜ r ≡ pageIs (now (array .entry)) k s ⌝ }
 {
-    let t = flash::spare_at(array, k);
-    if !same_spare(t, s) {
+    let page = flash::page_of(array, k);
+    if !same_spare(page::read_spare(page), s) {
         return false;
     }
-    flash::is_whole(array, k)
+    table::is_whole(page, t)
 }
 
 /// Whether the m pages from page k on are the map pages of checkpoint c.
-fn maps_at(array: &[u8], k: usize, c: u32, m: usize) -> bool
-    requires { ⌜ (k * 528 + m * 528 ≤ length (now array)) × (m ≤ 4) ⌝ }
+fn maps_at(array: &[u8], k: usize, c: u32, m: usize, t: &[u8; 256]) -> bool
+    requires { ⌜ (k * 528 + m * 528 ≤ length (now array)) × ((m ≤ 4) × (now t ≡ counts 0 256)) ⌝ }
     ensures { λ r. ⌜ r ≡ mapsAt (now (array .entry)) k 0 c m ⌝ }
 {
     let mut i: usize = 0;
     while i < m {
         let s = map_spare(i, c);
-        if !page_is(array, k + i, s) {
+        if !page_is(array, k + i, s, t) {
             return false;
         }
         i += 1;
@@ -154,16 +155,16 @@ pub fn number_at(array: &[u8], k: usize) -> u32
 }
 
 /// Whether a complete checkpoint with m map pages stands from page k on.
-fn complete_at(array: &[u8], m: usize, k: usize) -> bool
-    requires { ⌜ (k * 528 + (m * 528 + 528) ≤ length (now array)) × (m ≤ 4) ⌝ }
+fn complete_at(array: &[u8], m: usize, k: usize, t: &[u8; 256]) -> bool
+    requires { ⌜ (k * 528 + (m * 528 + 528) ≤ length (now array)) × ((m ≤ 4) × (now t ≡ counts 0 256)) ⌝ }
     ensures { λ r. ⌜ r ≡ completeAt (now (array .entry)) m k ⌝ }
 {
     let c = number_at(array, k);
-    if !maps_at(array, k, c, m) {
+    if !maps_at(array, k, c, m, t) {
         return false;
     }
     let s = zone_spare(m, c);
-    page_is(array, k + m, s)
+    page_is(array, k + m, s, t)
 }
 
 /// Whether the checkpoint at page k is newer than the best so far.
@@ -178,11 +179,11 @@ fn is_newer(array: &[u8], k: usize, best: Found) -> bool
 }
 
 /// The newer of the best so far and of a checkpoint at page k, if one is there.
-fn better(array: &[u8], m: usize, k: usize, best: Found) -> Found
-    requires { ⌜ (k * 528 + (m * 528 + 528) ≤ length (now array)) × ((m ≤ 4) × Fronts (length (now array)) k best) ⌝ }
+fn better(array: &[u8], m: usize, k: usize, best: Found, t: &[u8; 256]) -> Found
+    requires { ⌜ (k * 528 + (m * 528 + 528) ≤ length (now array)) × ((m ≤ 4) × (Fronts (length (now array)) k best × (now t ≡ counts 0 256))) ⌝ }
     ensures { λ r. ⌜ foundOf r ≡ cond (completeAt (now (array .entry)) m k && newer (now (array .entry)) k (foundOf best)) (at k) (foundOf best) ⌝ }
 {
-    if !complete_at(array, m, k) {
+    if !complete_at(array, m, k, t) {
         return best;
     }
     if is_newer(array, k, best) {
@@ -192,14 +193,14 @@ fn better(array: &[u8], m: usize, k: usize, best: Found) -> Found
 }
 
 /// The newest of the best so far and of those that start on the n pages from page k on.
-fn newest_from(array: &[u8], m: usize, k: usize, n: usize, best: Found) -> Found
-    requires { ⌜ (k * 528 + (n + m) * 528 ≤ length (now array)) × ((m ≤ 4) × Fronts (length (now array)) k best) ⌝ }
+fn newest_from(array: &[u8], m: usize, k: usize, n: usize, best: Found, t: &[u8; 256]) -> Found
+    requires { ⌜ (k * 528 + (n + m) * 528 ≤ length (now array)) × ((m ≤ 4) × (Fronts (length (now array)) k best × (now t ≡ counts 0 256))) ⌝ }
     ensures { λ r. ⌜ foundOf r ≡ newestFrom (now (array .entry)) m k n (foundOf best) ⌝ }
 {
     let mut found = best;
     let mut i: usize = 0;
     while i < n {
-        found = better(array, m, k + i, found);
+        found = better(array, m, k + i, found, t);
         i += 1;
     }
     found
@@ -210,7 +211,8 @@ pub fn newest(array: &[u8], m: usize, pages: usize) -> Found
     requires { ⌜ (2 * pages * 528 ≤ length (now array)) × ((m ≤ 4) × (8 ≤ pages)) ⌝ }
     ensures { λ r. ⌜ foundOf r ≡ newest (now (array .entry)) m pages ⌝ }
 {
+    let table = table::table();
     let n = pages - m;
-    let first = newest_from(array, m, 0, n, Found::Nothing);
-    newest_from(array, m, pages, n, first)
+    let first = newest_from(array, m, 0, n, Found::Nothing, &table);
+    newest_from(array, m, pages, n, first, &table)
 }

@@ -7,11 +7,9 @@ ghost use lib.Dec.{ltb};
 ghost use Rattle.model.specs.Page.{spareOf, pageBytes, pageAt, blankAt, wholeAt};
 ghost use Rattle.model.specs.Zones.{usedIn, cleanIn, nextIn};
 ghost use Rattle.model.specs.World.{applyOp, erase};
-ghost use Rattle.page.specs.Looking.{lookOf};
 ghost use Rattle.flash.specs.Programs.{Programmed};
 ghost use Rattle.flash.specs.Ranges.{Within};
 use model::Spare;
-use page::Looked;
 
 /// The part of the array that is page k.
 pub fn page_of(array: &[u8], k: usize) -> &[u8]
@@ -45,14 +43,6 @@ pub fn spare_at(array: &[u8], k: usize) -> Spare
     ensures { λ r. ⌜ r ≡ spareOf (pageAt (now (array .entry)) k) ⌝ }
 {
     page::read_spare(page_of(array, k))
-}
-
-/// What a scan takes from page k.
-pub fn look_at(array: &[u8], k: usize) -> Looked
-    requires { ⌜ k * 528 + 528 ≤ length (now array) ⌝ }
-    ensures { λ r. ⌜ r ≡ lookOf (pageAt (now (array .entry)) k) ⌝ }
-{
-    page::look(page_of(array, k))
 }
 
 /// Programs page k with these data and this spare area.

@@ -1,6 +1,7 @@
 // A page as 528 bytes: its class, its spare area, and how it is programmed and a block erased.
 // Every function takes the part of the lent array that it speaks of; what it requires is the part's length.
 ghost use mathlib.Core.Path.{_≡_};
+ghost use mathlib.Core.Bool.{false};
 ghost use Prim.Native.Nat.{_+_, _≤_, _<_};
 ghost use lib.ListN.{length, take, replicate};
 ghost use lib.Seq.{sets};
@@ -8,15 +9,8 @@ ghost use Rattle.model.specs.Lists.{part};
 ghost use Rattle.model.specs.Bytes.{zeroBits, allFF, le16, le32, bytes16, bytes32};
 ghost use Rattle.model.specs.Page.{classOf, isWhole, spareOf, spareBytes, pageBytes};
 ghost use Rattle.page.specs.Words.{le64, bytes64};
-ghost use Rattle.page.specs.Looking.{lookOf};
 use model::Class;
 use model::Spare;
-
-/// What a scan takes from a page.
-pub struct Looked {
-    pub class: Class,
-    pub spare: Spare,
-}
 
 /// A byte as a number of 16 bits.
 fn wide(x: u8) -> u16
@@ -44,7 +38,7 @@ pub fn word32(page: &[u8], at: usize) -> u32
 }
 
 /// The number of 8 bytes at a place.
-fn word64(page: &[u8], at: usize) -> u64
+pub fn word64(page: &[u8], at: usize) -> u64
     requires { ⌜ at + 8 ≤ length (now page) ⌝ }
     ensures { λ r. ⌜ r ≡ le64 (now (page .entry)) at ⌝ }
 {
@@ -96,6 +90,19 @@ pub fn erased(page: &[u8]) -> bool
     common == 0xFFFF_FFFF_FFFF_FFFF
 }
 
+/// The class of a page that is not erased, by its zero bits, counted: whole if Zeros agrees, otherwise torn.
+pub fn classed(page: &[u8], counted: u16) -> Class
+    requires { ⌜ (length (now page) ≡ 528) × ((allFF (now page) ≡ false) × (counted ≡ zeroBits (take 526 (now page)))) ⌝ }
+    ensures { λ r. ⌜ r ≡ classOf (now (page .entry)) ⌝ }
+{
+    let stored = word16(page, Spare::ZEROS);
+    if counted == stored {
+        Class::Whole
+    } else {
+        Class::Torn
+    }
+}
+
 /// Erased, otherwise whole if Zeros agrees, otherwise torn.
 pub fn classify(page: &[u8]) -> Class
     requires { ⌜ length (now page) ≡ 528 ⌝ }
@@ -104,13 +111,7 @@ pub fn classify(page: &[u8]) -> Class
     if erased(page) {
         return Class::Erased;
     }
-    let counted = zeros(page);
-    let stored = word16(page, Spare::ZEROS);
-    if counted == stored {
-        Class::Whole
-    } else {
-        Class::Torn
-    }
+    classed(page, zeros(page))
 }
 
 /// The spare area before Zeros.
@@ -136,17 +137,6 @@ pub fn is_whole(c: Class) -> bool
         Class::Erased => false,
         Class::Whole => true,
         Class::Torn => false,
-    }
-}
-
-/// The class and the spare area: they depend on these 528 bytes alone.
-pub fn look(page: &[u8]) -> Looked
-    requires { ⌜ length (now page) ≡ 528 ⌝ }
-    ensures { λ r. ⌜ r ≡ lookOf (now (page .entry)) ⌝ }
-{
-    Looked {
-        class: classify(page),
-        spare: read_spare(page),
     }
 }
 

@@ -1,4 +1,4 @@
-// The functions of `page` for programs in C or Rust, which may hand in parts of any length.
+// The functions of `page`, and the classing of `table`, for programs in C or Rust, which may hand in parts of any length.
 // A part of another length is left as it is.
 ghost use mathlib.Core.Path.{_≡_};
 ghost use lib.ListN.{length, replicate};
@@ -26,6 +26,18 @@ pub extern "C" fn pageffi_class(page: &[u8]) -> u8
         return 3;
     }
     number(page::classify(page))
+}
+
+/// The same, its zero bits counted by the table, as recovery counts them.
+#[no_mangle]
+pub extern "C" fn pageffi_class_by_table(page: &[u8]) -> u8
+    ensures { λ r. ⌜ r ≡ classed (now (page .entry)) ⌝ }
+{
+    if page.len() != Spare::PAGE {
+        return 3;
+    }
+    let table = table::table();
+    number(table::classify(page, &table))
 }
 
 /// Programs a page with 512 bytes of data and this spare area.

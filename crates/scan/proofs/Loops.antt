@@ -19,7 +19,7 @@ use Rattle.arrays.specs.Pages.{block-page-fits}
 use Rattle.ranks.specs.Dealt.{Each, each-append}
 use Rattle.sorting.specs.Sort.{keyAt, Pages}
 use Rattle.scan.specs.Taken.{Blocks, listed}
-use Rattle.page.specs.Looking.{lookOf}
+use Rattle.table.specs.Looking.{lookOf}
 use Rattle.scan.specs.Notes.{noteOf, noteAt, notesOf, inside, picked}
 use Rattle.scan.specs.Judged.{markAt, risesFrom}
 use Rattle.scan.proofs.Visiting.{notes-more}

@@ -18,8 +18,8 @@ use Rattle.model.specs.Zones.{Entry, entryOf}
 use Rattle.model.specs.Recovery.{isMark, markNew, entryGood, top}
 use Rattle.model.specs.declared.Spare.{Spare}
 use Rattle.arrays.specs.Tests.{Is, eqb-cases, decide, and-left, and-right}
-use Rattle.page.specs.declared.Looked.{Looked}
-use Rattle.page.specs.Looking.{lookOf}
+use Rattle.table.specs.declared.Looked.{Looked}
+use Rattle.table.specs.Looking.{lookOf}
 use Rattle.ranks.specs.Dealt.{each-map, Distinct}
 use Rattle.ranks.specs.Entries.{Entries}
 use Rattle.ranks.specs.Clear.{Fine, fine-ver, all-entries}

@@ -6,8 +6,8 @@ use lib.Dec.{eqb, ltb, leb}
 use Rattle.model.specs.Lists.{keep, those}
 use Rattle.model.specs.Page.{isWhole, pageAt}
 use Rattle.model.specs.declared.Spare.{Spare}
-use Rattle.page.specs.declared.Looked.{Looked}
-use Rattle.page.specs.Looking.{lookOf}
+use Rattle.table.specs.declared.Looked.{Looked}
+use Rattle.table.specs.Looking.{lookOf}
 use Rattle.scan.specs.declared.Seen.{Seen}
 
 -- the note of a page: 0 where it is not whole, 1 a page of a change, 2 the mark of a change, 3 a lone page

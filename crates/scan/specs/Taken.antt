@@ -6,8 +6,8 @@ use Rattle.model.specs.Lists.{keep, upFrom}
 use Rattle.model.specs.Page.{spareOf, isWhole, pageAt, wholeAt}
 use Rattle.model.specs.Zones.{Entry, entryOf, entryAt}
 use Rattle.flash.specs.Ranges.{Within}
-use Rattle.page.specs.declared.Looked.{Looked}
-use Rattle.page.specs.Looking.{lookOf, look-alone}
+use Rattle.table.specs.declared.Looked.{Looked}
+use Rattle.table.specs.Looking.{lookOf, look-alone}
 use lib.ListN.{length}
 
 -- blocks to scan: p pages a block, all of them in the array

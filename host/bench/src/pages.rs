@@ -1,5 +1,5 @@
-//! Classing, programming and erasing pages: the proved functions of `page` (linked from libpageffi.a) beside plain Rust
-//! that does the same job, over 4 MB of erased, random and whole pages.
+//! Classing, programming and erasing pages: the proved functions of `page`, and the classing of `table`, by which recovery counts (linked from
+//! libpageffi.a), beside plain Rust that does the same job, over 4 MB of erased, random and whole pages.
 use crate::setup::Random;
 use crate::table::Table;
 use std::hint::black_box;
@@ -12,12 +12,17 @@ const ROUNDS: usize = 201;
 
 extern "C" {
     fn pageffi_class(page: *const u8, len: usize) -> u8;
+    fn pageffi_class_by_table(page: *const u8, len: usize) -> u8;
     fn pageffi_program(page: *mut u8, len: usize, data: *const u8, data_len: usize, lpn: u16, cnt: u16, id: u32, ver: u32);
     fn pageffi_erase(block: *mut u8, len: usize);
 }
 
 fn class_proved(page: &[u8]) -> u8 {
     unsafe { pageffi_class(page.as_ptr(), page.len()) }
+}
+
+fn class_by_table(page: &[u8]) -> u8 {
+    unsafe { pageffi_class_by_table(page.as_ptr(), page.len()) }
 }
 
 fn program_proved(page: &mut [u8], data: &[u8], lpn: u16, cnt: u16, id: u32, ver: u32) {
@@ -195,6 +200,7 @@ fn line(table: &mut Table, what: &str, mut ways: Vec<Way>) {
 }
 
 const CLASSES: [fn(&[u8]) -> u8; 5] = [class_proved, class_bytes, class_words, class_once, class_common];
+const BY_TABLE: [fn(&[u8]) -> u8; 5] = [class_by_table, class_bytes, class_words, class_once, class_common];
 const PROGRAMS: [fn(&mut [u8], &[u8], u16, u16, u32, u32); 3] = [program_proved, program_bytes, program_words];
 const ERASES: [fn(&mut [u8]); 3] = [erase_proved, erase_fill, erase_loop];
 
@@ -213,7 +219,7 @@ pub fn run(table: &mut Table) {
     let arrays = [("erased", &erased), ("random", &noise), ("whole", &whole)];
     for (name, array) in arrays {
         let n = classes(array, class_bytes);
-        assert!(CLASSES.iter().all(|f| classes(array, f) == n), "{name}");
+        assert!(CLASSES.iter().chain(&BY_TABLE).all(|f| classes(array, f) == n), "{name}");
     }
     for (program, erase) in PROGRAMS.into_iter().zip(ERASES) {
         let mut again = noise.clone();
@@ -223,13 +229,15 @@ pub fn run(table: &mut Table) {
         assert!(again == erased);
     }
 
-    for (name, array) in arrays {
-        let way = |f| -> Way {
-            Box::new(move || {
-                black_box(classes(array, f));
-            })
-        };
-        line(table, &format!("class, {name} pages"), CLASSES.into_iter().map(way).collect());
+    for (what, ways) in [("class", CLASSES), ("class by the table", BY_TABLE)] {
+        for (name, array) in arrays {
+            let way = |f| -> Way {
+                Box::new(move || {
+                    black_box(classes(array, f));
+                })
+            };
+            line(table, &format!("{what}, {name} pages"), ways.into_iter().map(way).collect());
+        }
     }
     let program = |f| -> Way {
         let (mut array, data) = (erased.clone(), &data);

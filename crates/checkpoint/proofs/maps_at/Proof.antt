@@ -9,10 +9,10 @@ use Rattle.checkpoint.proofs.maps_at.Statement.{statement}
 use Rattle.checkpoint.proofs.maps_at.Tie as tie
 
 abbrev Inv-loop : tie.InvT-loop
-Inv-loop array k c m i₀ i = (i ≤ m) × (mapsAt array k 0 c m ≡ mapsAt array (k + i) i c (m - i))
+Inv-loop array k c m t i₀ i = (i ≤ m) × (mapsAt array k 0 c m ≡ mapsAt array (k + i) i c (m - i))
 
 abbrev μ-loop : tie.MeasureT-loop
-μ-loop array k c m i₀ i = m - i
+μ-loop array k c m t i₀ i = m - i
 
 loop-holds : tie.Need-loop-holds Inv-loop μ-loop
 loop-holds c = (omega arith, maps-start (c .before .args .array .now) (c .before .args .k) (c .before .args .c) (c .before .args .m))
@@ -24,7 +24,7 @@ add-page-is : tie.Need-add-page-is Inv-loop μ-loop
 add-page-is c = omega arith
 
 page-is-requires : tie.Need-page-is-requires Inv-loop μ-loop
-page-is-requires c κs = omega arith
+page-is-requires c κs = (omega arith, c .before .before .before .before .pre .1 .1)
 
 returns : tie.Need-returns Inv-loop μ-loop
 returns c =

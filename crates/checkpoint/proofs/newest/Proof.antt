@@ -10,25 +10,30 @@ use Rattle.checkpoint.specs.Found.{FoundIn}
 use Rattle.checkpoint.proofs.newest.Statement.{statement}
 use Rattle.checkpoint.proofs.newest.Tie as tie
 
+table-requires : tie.Need-table-requires
+table-requires c κs = search needs
+
 sub-n : tie.Need-sub-n
 sub-n c = search needs
 
 newest-from-requires : tie.Need-newest-from-requires
-newest-from-requires c κs = search needs
+newest-from-requires c κs = (omega arith, (omega arith, (record { here = omega arith; before = search needs }, c .before .table .ensures)))
 
 newest-from-requires-2 : tie.Need-newest-from-requires-2
 newest-from-requires-2 c κs =
-    let a = c .before .before .args in
-    let e = c .newest-from .ensures in
+    let table = c .before .before .before in
+    let a = table .before .before .args in
+    let e = c .before .newest-from .ensures in
     let xs = a .array .now in
     let f : FoundIn (length xs) (newestFrom xs (a .m) 0 (a .pages - a .m) nothing) = in-search xs (length xs) (a .m) 0 (a .pages - a .m) nothing (omega arith) (omega arith) in
-    (omega arith, (omega arith, record { here = omega arith; before = in-same _ _ _ e f }))
+    (omega arith, (omega arith, (record { here = omega arith; before = in-same _ _ _ e f }, table .table .ensures)))
 
 returns : tie.Need-returns
 unfolding newest
 returns c =
-    let a = c .before .before .before .args in
-    c .newest-from2 .ensures ∙ ap (newestFrom (a .array .now) (a .m) (a .pages) (a .pages - a .m)) (c .before .newest-from .ensures)
+    let first = c .before .before in
+    let a = first .before .before .before .before .args in
+    c .newest-from2 .ensures ∙ ap (newestFrom (a .array .now) (a .m) (a .pages) (a .pages - a .m)) (first .newest-from .ensures)
 
 pub newest-spec : {M : Type 1} → statement M
-newest-spec = tie.close (tie.spec sub-n newest-from-requires newest-from-requires-2 returns)
+newest-spec = tie.close (tie.spec table-requires sub-n newest-from-requires newest-from-requires-2 returns)

@@ -11,21 +11,21 @@ use Rattle.checkpoint.proofs.newest_from.Statement.{statement}
 use Rattle.checkpoint.proofs.newest_from.Tie as tie
 
 abbrev Inv-loop : tie.InvT-loop
-Inv-loop array m k n found₀ i₀ found i = (i ≤ n) × (FoundIn (length array) (foundOf found) × (newestFrom array m k n (foundOf found₀) ≡ newestFrom array m (k + i) (n - i) (foundOf found)))
+Inv-loop array m k n t found₀ i₀ found i = (i ≤ n) × (FoundIn (length array) (foundOf found) × (newestFrom array m k n (foundOf found₀) ≡ newestFrom array m (k + i) (n - i) (foundOf found)))
 
 abbrev μ-loop : tie.MeasureT-loop
-μ-loop array m k n found₀ i₀ found i = n - i
+μ-loop array m k n t found₀ i₀ found i = n - i
 
 loop-holds : tie.Need-loop-holds Inv-loop μ-loop
 loop-holds c =
     let a = c .before .args in
-    (omega arith, (c .before .pre .1 .1 .before, found-start (a .array .now) (a .m) (a .k) (a .n) (foundOf (a .best))))
+    (omega arith, (c .before .pre .1 .1 .0 .before, found-start (a .array .now) (a .m) (a .k) (a .n) (foundOf (a .best))))
 
 add-better : tie.Need-add-better Inv-loop μ-loop
 add-better c = omega arith
 
 better-requires : tie.Need-better-requires Inv-loop μ-loop
-better-requires c κs = (omega arith, (omega arith, record { here = omega arith; before = c .before .loop .inv .1 .0 }))
+better-requires c κs = (omega arith, (omega arith, (record { here = omega arith; before = c .before .loop .inv .1 .0 }, c .before .before .before .pre .1 .1 .1)))
 
 add-i : tie.Need-add-i Inv-loop μ-loop
 add-i c = omega arith

@@ -1,7 +1,6 @@
--- `page::classify` meets its contract: each return by the tests on its path. Assumes nothing.
+-- `page::classify` meets its contract: an erased page is, and `classed` takes any other. Assumes nothing.
 use mathlib.Core.Path.{sym, _∙_}
 use borrow.Author.Needs.{needs}
-use borrow.Author.Tests.{eq-eqb, ne-eqb}
 use Rattle.model.specs.Page.{classOf}
 use Rattle.page.proofs.classify.Statement.{statement}
 use Rattle.page.proofs.classify.Tie as tie
@@ -16,21 +15,13 @@ returns c = rw (sym (c .before .erased .ensures) ∙ c .if1 .taken)
 zeros-requires : tie.Need-zeros-requires
 zeros-requires c κs = search needs
 
-word16-requires : tie.Need-word16-requires
-word16-requires c κs = search needs
+classed-requires : tie.Need-classed-requires
+classed-requires c κs =
+    let q = c .before in
+    (q .before .before .before .pre, (sym (q .before .erased .ensures) ∙ q .if1 .left, c .zeros .ensures))
 
 returns-2 : tie.Need-returns-2
-unfolding classOf
-returns-2 c =
-    let q = c .before .before .before in
-    rw (sym (q .before .erased .ensures) ∙ q .if1 .left, eq-eqb _ _ (sym (c .before .before .zeros .ensures) ∙ c .if2 .taken ∙ c .before .word16 .ensures))
-
-returns-3 : tie.Need-returns-3
-unfolding classOf
-returns-3 c =
-    let q = c .before .before .before in
-    rw (sym (q .before .erased .ensures) ∙ q .if1 .left, ne-eqb _ _ (λ e. c .if2 .left (c .before .before .zeros .ensures ∙ e ∙ sym (c .before .word16 .ensures))))
+returns-2 c = c .classed .ensures
 
 pub classify-spec : {M : Type 1} → statement M
-classify-spec =
-    tie.close (tie.spec erased-requires returns zeros-requires word16-requires returns-2 returns-3)
+classify-spec = tie.close (tie.spec erased-requires returns zeros-requires classed-requires returns-2)

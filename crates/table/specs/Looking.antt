@@ -3,7 +3,7 @@ use Prim.Native.Nat.{ℕ}
 use mathlib.Core.Path.{_≡_, ap}
 use mathlib.Core.List.{List}
 use Rattle.model.specs.Page.{classOf, spareOf, pageAt}
-use Rattle.page.specs.declared.Looked.{Looked}
+use Rattle.table.specs.declared.Looked.{Looked}
 
 -- the class and the spare area of a page with these bytes
 unfoldable pub lookOf : List ℕ → Looked

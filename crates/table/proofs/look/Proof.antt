@@ -1,8 +1,8 @@
--- `page::look` meets its contract: from what its calls ensure. Assumes nothing.
+-- `table::look` meets its contract: from what its calls ensure. Assumes nothing.
 use borrow.Author.Needs.{needs}
-use Rattle.page.specs.Looking.{lookOf}
-use Rattle.page.proofs.look.Statement.{statement}
-use Rattle.page.proofs.look.Tie as tie
+use Rattle.table.specs.Looking.{lookOf}
+use Rattle.table.proofs.look.Statement.{statement}
+use Rattle.table.proofs.look.Tie as tie
 
 classify-requires : tie.Need-classify-requires
 classify-requires c κs = search needs
