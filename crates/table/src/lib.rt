@@ -421,6 +421,14 @@ fn add7(e: &[u64; 8]) -> Sum
     }
 }
 
+/// The one bits that a sum stands for: three words are looked up.
+fn sum_ones(t: &[u8; 256], s: Sum) -> u32
+    requires { ⌜ now t ≡ counts 0 256 ⌝ }
+    ensures { λ r. ⌜ (r ≡ worth s) × (r ≤ 448) ⌝ }
+{
+    word_ones(t, s.one) + 2 * word_ones(t, s.two) + 4 * word_ones(t, s.four)
+}
+
 /// The one bits of eight words and one more, which are added before they are looked up: four words for nine.
 fn eights_ones(t: &[u8; 256], e: &[u64; 8], more: u64) -> u32
     requires { ⌜ now t ≡ counts 0 256 ⌝ }
@@ -430,20 +438,28 @@ fn eights_ones(t: &[u8; 256], e: &[u64; 8], more: u64) -> u32
     let a = add3(s.one, e[7], more);
     let b = add3(s.two, a.carry, 0);
     let c = add3(s.four, b.carry, 0);
-    let few = word_ones(t, a.low) + 2 * word_ones(t, b.low);
-    few + 4 * word_ones(t, c.low) + 8 * word_ones(t, c.carry)
+    let low = Sum {
+        one: a.low,
+        two: b.low,
+        four: c.low,
+    };
+    sum_ones(t, low) + 8 * word_ones(t, c.carry)
 }
 
-/// The one bits of what was added, of which the words that count eight are kept: seven words are looked up.
-fn sum_ones(t: &[u8; 256], one: Pair, two: Pair, four: Pair, eights: &[u64; 8]) -> u32
+/// The one bits of pairs that count one, two and four, and of the words kept that count eight: seven words are looked up.
+fn all_ones(t: &[u8; 256], one: Pair, two: Pair, four: Pair, eights: &[u64; 8]) -> u32
     requires { ⌜ now t ≡ counts 0 256 ⌝ }
     ensures { λ r. ⌜ r ≡ onesOf one + 2 * onesOf two + 4 * onesOf four + 8 * onesIn (take 8 (now (eights .entry))) ⌝ }
 {
     let a = add3(one.left, one.right, 0);
     let b = add3(two.left, two.right, a.carry);
     let c = add3(four.left, four.right, b.carry);
-    let few = word_ones(t, a.low) + 2 * word_ones(t, b.low);
-    few + 4 * word_ones(t, c.low) + 8 * eights_ones(t, eights, c.carry)
+    let low = Sum {
+        one: a.low,
+        two: b.low,
+        four: c.low,
+    };
+    sum_ones(t, low) + 8 * eights_ones(t, eights, c.carry)
 }
 
 /// The zero bits of the 526 bytes before Zeros by the table. What is added begins with the spare area; then come the data, eight pairs a turn.
@@ -471,7 +487,7 @@ pub fn zeros(page: &[u8], t: &[u8; 256]) -> u16
         eights[i + 1] = e.right;
         q += 1;
     }
-    (4208 - sum_ones(t, one, two, four, &eights)) as u16
+    (4208 - all_ones(t, one, two, four, &eights)) as u16
 }
 
 /// The class of a page by the table: erased, otherwise whole if Zeros agrees, otherwise torn.

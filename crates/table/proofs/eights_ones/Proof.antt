@@ -21,20 +21,11 @@ add3-requires-2 c κs = search needs
 add3-requires-3 : tie.Need-add3-requires-3
 add3-requires-3 c κs = search needs
 
+sum-ones-requires : tie.Need-sum-ones-requires
+sum-ones-requires c κs = search needs
+
 word-ones-requires : tie.Need-word-ones-requires
 word-ones-requires c κs = search needs
-
-word-ones-requires-2 : tie.Need-word-ones-requires-2
-word-ones-requires-2 c κs = search needs
-
-mul-few : tie.Need-mul-few
-mul-few c = search needs
-
-add-few : tie.Need-add-few
-add-few c = search needs
-
-word-ones-requires-3 : tie.Need-word-ones-requires-3
-word-ones-requires-3 c κs = search needs
 
 mul-result : tie.Need-mul-result
 mul-result c = search needs
@@ -42,34 +33,14 @@ mul-result c = search needs
 add-result : tie.Need-add-result
 add-result c = search needs
 
-word-ones-requires-4 : tie.Need-word-ones-requires-4
-word-ones-requires-4 c κs = search needs
-
-mul-result-2 : tie.Need-mul-result-2
-mul-result-2 c = search needs
-
-add-result-2 : tie.Need-add-result-2
-add-result-2 c = search needs
-
 returns : tie.Need-returns
 returns c =
-    let third = c .before .before .before .before in
+    let third = c .before .before in
     let first = third .before .before in
-    let seven = first .before .before in (
-      omega (
-        arith,
-        none,
-        ones-more (seven .before .args .e .now) 7,
-        seven .add7 .ensures,
-        first .add3 .ensures,
-        third .before .add32 .ensures,
-        third .add33 .ensures,
-        c .before .before .before .word-ones .ensures,
-        c .before .before .word-ones2 .ensures,
-        c .before .word-ones3 .ensures,
-        c .word-ones4 .ensures,
-      ),
-      omega (arith, c .before .before .before .word-ones .ensures .1, c .before .before .word-ones2 .ensures .1, c .before .word-ones3 .ensures .1, c .word-ones4 .ensures .1),
+    let seven = first .before .before in
+    let eighth = ones-more (seven .before .args .e .now) 7 in (
+      omega (arith, none, eighth, seven .add7 .ensures, first .add3 .ensures, third .before .add32 .ensures, third .add33 .ensures),
+      omega arith,
     )
 
 pub eights-ones-spec : {M : Type 1} → statement M
@@ -81,14 +52,8 @@ eights-ones-spec =
     add3-requires
     add3-requires-2
     add3-requires-3
+    sum-ones-requires
     word-ones-requires
-    word-ones-requires-2
-    mul-few
-    add-few
-    word-ones-requires-3
     mul-result
     add-result
-    word-ones-requires-4
-    mul-result-2
-    add-result-2
     returns)

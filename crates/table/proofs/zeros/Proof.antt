@@ -90,23 +90,23 @@ loop-again c =
       ),
     )
 
-sum-ones-requires : tie.Need-sum-ones-requires Inv-loop μ-loop
-sum-ones-requires c κs = search needs
+all-ones-requires : tie.Need-all-ones-requires Inv-loop μ-loop
+all-ones-requires c κs = search needs
 
 sub-result : tie.Need-sub-result Inv-loop μ-loop
 sub-result c =
     let l = c .before .before .before in
-    omega (arith, all-added _ (l .loop .eights) (l .loop .q) _ (omega arith) (l .loop .inv .1 .1), c .sum-ones .ensures)
+    omega (arith, all-added _ (l .loop .eights) (l .loop .q) _ (omega arith) (l .loop .inv .1 .1), c .all-ones .ensures)
 
 cast-result : tie.Need-cast-result Inv-loop μ-loop
 cast-result c =
     let l = c .before .before .before in
-    omega (arith, all-added _ (l .loop .eights) (l .loop .q) _ (omega arith) (l .loop .inv .1 .1), c .sum-ones .ensures)
+    omega (arith, all-added _ (l .loop .eights) (l .loop .q) _ (omega arith) (l .loop .inv .1 .1), c .all-ones .ensures)
 
 returns : tie.Need-returns Inv-loop μ-loop
 returns c =
     let l = c .before .before .before in
-    omega (arith, all-added _ (l .loop .eights) (l .loop .q) _ (omega arith) (l .loop .inv .1 .1), c .sum-ones .ensures)
+    omega (arith, all-added _ (l .loop .eights) (l .loop .q) _ (omega arith) (l .loop .inv .1 .1), c .all-ones .ensures)
 
 pub zeros-spec : {M : Type 1} → statement M
 zeros-spec =
@@ -130,7 +130,7 @@ zeros-spec =
     add-q
     loop-less
     loop-again
-    sum-ones-requires
+    all-ones-requires
     sub-result
     cast-result
     returns)
