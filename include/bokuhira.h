@@ -3,7 +3,7 @@
  * (x86-64 Linux). It calls nothing but memcpy, memmove and memset, keeps no memory of its own and allocates none.
  * docs/FIRMWARE.md says how firmware uses it; examples/switch.c is a program to copy from.
  *
- * Buffers. Every function takes the same four, lent, each as a pointer and a length:
+ * Buffers. Every function but bokuhira_class, which takes one page, takes the same four, lent, each as a pointer and a length:
  *
  *   array   blocks x pages x 528 bytes: the flash array. Page q of block b begins at byte (b x pages + q) x 528; 512 bytes of data are
  *           followed by 16 of spare.
@@ -14,16 +14,18 @@
  * Values are free: whatever the buffers hold and however long they are, a call answers as document 01 (docs/PAPERS.md) says, and lengths
  * that do not fit are refused with 1. Pointers are not checked: each must point to as many elements as its length says, must not be null
  * (not even for length 0), and a map must be aligned for 16 bits. The buffers of one call, `data` of a write among them, must not
- * overlap one another, nor *at of bokuhira_read: what a read found is copied before it is written. Besides them a call needs stack:
- * BOKUHIRA_STACK.
+ * overlap one another, nor *at of bokuhira_read, nor *difference of bokuhira_class: what a call found is copied before it is written.
+ * Besides them a call needs stack: BOKUHIRA_STACK.
  *
  * Answers. Each function answers with one number: 0 done; 255 more (one stride of a format, a checkpoint or a reclaim is done: call
  * again); else a refusal's, which changes no byte of any buffer. One call programs at most one page or erases at most one block.
+ * bokuhira_class alone answers with a class, and has no refusals.
  *
  * Words. docs/FORMAT.md has them with the bytes.
  *
- *   page        erased: all 528 bytes are 0xFF; else whole: the number in its spare area agrees with the zero bits counted; else torn,
- *               as a cut leaves it: it belongs to nobody. The clean pages of a block are those after its last that is not erased.
+ *   page        erased: all 528 bytes are 0xFF; else whole: the number in its spare area, Zeros, agrees with the zero bits counted; else
+ *               torn, as a cut leaves it: it belongs to nobody. bokuhira_class tells which, and how torn. The clean pages of a block
+ *               are those after its last that is not erased.
  *   front       blocks 0 and 1, which take the checkpoints. The others are data blocks.
  *   zone        each data block is in one: available (up to three, which take the next pages), unavailable (full, and a recovery reads
  *               its pages), free (erased), or checkpointed (in no list: what it still holds stands in the checkpoint's map).
@@ -33,13 +35,14 @@
  *               one of eight places, and its newest page is held in memory, until the next write or the commit programs it.
  *   stride      what one call does of a command that takes several.
  *
- * Threads. The functions share nothing: calls on different buffers may run at the same time. On the same buffers bokuhira_read may run
- * at the same time as itself, each call with its own *at. Every other call on them must be alone: with a lock, or from one thread.
+ * Threads. The functions share nothing: calls on different buffers may run at the same time. On the same buffers calls of bokuhira_read
+ * and bokuhira_class may run at the same time, each with its own *at or *difference. Every other call on them must be alone: with a
+ * lock, or from one thread.
  *
- * Power-up. The first call on a device is a recover or a format. Recover takes any BOKUHIRA_STATE bytes, such as the RAM has after a
+ * Power-up. The first command on a device is a recover or a format. Recover takes any BOKUHIRA_STATE bytes, such as the RAM has after a
  * power cut: it makes map and state from the array and does not look at what they were. Format takes any too and begins with its first
  * stride, but for bytes that say a format of this geometry is under way: it goes on with that, or refuses with 1 where that is out of
- * range. To begin for certain, hand in zeros. Every other function refuses bytes that encode no state with 1.
+ * range. To begin for certain, hand in zeros. Every other function that takes a state refuses bytes that encode none with 1.
  */
 #ifndef BOKUHIRA_H
 #define BOKUHIRA_H
@@ -52,9 +55,9 @@ extern "C" {
 #endif
 
 #define BOKUHIRA_VERSION_MAJOR 0
-#define BOKUHIRA_VERSION_MINOR 3
+#define BOKUHIRA_VERSION_MINOR 4
 #define BOKUHIRA_VERSION_PATCH 0
-#define BOKUHIRA_VERSION "0.3.0"
+#define BOKUHIRA_VERSION "0.4.0"
 
 /*
  * The state: each field by its offset, little-endian, with nothing left between the fields. BOKUHIRA_STATE bytes encode a state if the
@@ -155,6 +158,12 @@ extern "C" {
 #define BOKUHIRA_RESERVE_SHORT 16
 #define BOKUHIRA_BUSY 17
 #define BOKUHIRA_MORE 255
+
+/* Classes of a page: what bokuhira_class answers. */
+#define BOKUHIRA_ERASED 0
+#define BOKUHIRA_WHOLE 1
+#define BOKUHIRA_TORN 2
+#define BOKUHIRA_NO_PAGE 3 /* not BOKUHIRA_PAGE bytes */
 
 /* The word of an answer. */
 static inline const char *bokuhira_word(uint8_t answer)
@@ -305,6 +314,25 @@ uint8_t bokuhira_checkpoint(uint8_t *array, size_t array_len, const uint16_t *ma
 BOKUHIRA_CHECKED
 uint8_t bokuhira_reclaim(uint8_t *array, size_t array_len, uint16_t *map, size_t map_len, const uint8_t *hold, size_t hold_len,
                          uint8_t *state, size_t state_len);
+
+/*
+ * The class of one page. It takes the BOKUHIRA_PAGE bytes of that page and no other buffer, and may be called at any time, before a
+ * recover too. Where it answers BOKUHIRA_TORN, *difference becomes Zeros, the number in the page's last two bytes, minus the zero
+ * bits counted in the 526 bytes before it: -4208 to 65534, never 0. Else *difference is unchanged.
+ *
+ * After a program that was cut the difference is what was still to be turned: 1 for each such bit of the 526 bytes, 2 to the power of
+ * i for bit i of Zeros. It falls with each bit: a plug pulled early leaves a large one, a plug pulled late a small one. It does not
+ * tell how many bits are missing, since which ones turn first is the chip's affair: 32768 may be one bit of Zeros, and 4000 four
+ * thousand bits of data. So it compares two cuts of one program where the second had turned all that the first had, and is a hint for
+ * any other two. After an erase that was cut it is the other way round: it rises with each bit. The pages of such a block are not in
+ * scan order.
+ *
+ * On an array that nothing but this layer wrote since its format was done, a torn page's difference is at least 1 (proved). Below 0,
+ * the layer did not leave the page so: a bit changed by itself, or something else wrote there. Above 0 says nothing of that.
+ * Changes *difference. Answers BOKUHIRA_ERASED, BOKUHIRA_WHOLE or BOKUHIRA_TORN; BOKUHIRA_NO_PAGE where page_len is not BOKUHIRA_PAGE.
+ */
+BOKUHIRA_CHECKED
+uint8_t bokuhira_class(const uint8_t *page, size_t page_len, int32_t *difference);
 
 #ifdef __cplusplus
 }

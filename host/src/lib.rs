@@ -2,7 +2,7 @@
 //! `Store` owns.
 //!
 //! Nothing is required of a caller: any array, map, hold and state of any length may be handed in. A call is carried out, or it is
-//! refused with one of document 01's numbers and every buffer is as it was.
+//! refused with one of document 01's numbers and every buffer is as it was. `Class` tells what a page is, and how torn.
 //!
 //! ```
 //! use bokuhira::{Answer, Geometry, Refusal, Store, DATA};
@@ -26,10 +26,12 @@
 //! ```
 
 mod answer;
+mod class;
 mod raw;
 mod state;
 
 pub use answer::{Answer, Refusal};
+pub use class::Class;
 pub use state::{Kind, Place, State, Work, Zones};
 
 /// The bytes of a page, of its data, and of its spare area.
@@ -157,6 +159,11 @@ impl Store {
     /// One stride of a reclaim.
     pub fn reclaim(&mut self) -> Answer {
         Answer::of(raw::reclaim(self))
+    }
+
+    /// The class of page k of the array; none past its end.
+    pub fn class(&self, k: usize) -> Option<Class> {
+        self.array.chunks_exact(PAGE).nth(k).and_then(Class::of)
     }
 
     /// Carries out a call. A read gives its answer only.

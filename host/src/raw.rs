@@ -13,6 +13,7 @@ extern "C" {
     fn bokuhira_read(a: *const u8, an: usize, m: *const u16, mn: usize, h: *const u8, hn: usize, s: *const u8, sn: usize, at: *mut usize, lpn: u16) -> u8;
     fn bokuhira_checkpoint(a: *mut u8, an: usize, m: *const u16, mn: usize, h: *const u8, hn: usize, s: *mut u8, sn: usize) -> u8;
     fn bokuhira_reclaim(a: *mut u8, an: usize, m: *mut u16, mn: usize, h: *const u8, hn: usize, s: *mut u8, sn: usize) -> u8;
+    fn bokuhira_class(p: *const u8, pn: usize, by: *mut i32) -> u8;
 }
 
 // SAFETY of every call: each pointer comes with its own vector's length, no two vectors overlap, and the archive's functions are proved to stay
@@ -79,4 +80,11 @@ pub fn read(s: &Store, lpn: u16) -> (u8, usize) {
         )
     };
     (answer, at)
+}
+
+/// The class, and where it is 2 by how much the page is torn.
+pub fn class(page: &[u8]) -> (u8, i32) {
+    let mut by = 0;
+    let class = unsafe { bokuhira_class(page.as_ptr(), page.len(), &mut by) };
+    (class, by)
 }

@@ -1,8 +1,9 @@
 //! Cuts bit by bit: the last program of a commit and of a lone write with every single due bit left out in turn, and every prefix of an
-//! erase. After each, both layers recover with any map, hold and state, and every logical page is read.
+//! erase. After each, both layers recover with any map, hold and state, and every logical page is read; and the page that was cut is torn
+//! by what its bits count.
 mod common;
 
-use bokuhira::{Answer, Call, Geometry, Store, DATA};
+use bokuhira::{Answer, Call, Class, Geometry, Store, DATA, PAGE};
 use common::{due_bits, lost_state, say, Layer, Rng, LAYERS};
 
 const SIZE: Geometry = Geometry { blocks: 8, pages: 8, logical: 16 };
@@ -60,7 +61,7 @@ impl Device {
         (self.store.array.clone(), due_bits(&self.store.array, &after[0].array))
     }
 
-    /// The call's page with every due bit but one: the old settings. With all: the new.
+    /// The call's page with every due bit but one: the old settings, and a page torn by that bit. With all: the new.
     fn each_bit_left_out(mut self, call: &Call, new: Settings) -> usize {
         let (before, due) = self.due(call);
         let mut array = before.clone();
@@ -70,17 +71,19 @@ impl Device {
         for (n, (at, mask)) in due.iter().enumerate() {
             array[*at] ^= mask;
             self.recovers(&array, &old, &format!("due bit {n} of {} left out", due.len()));
+            is_torn_by(&array, *at, counts(*at, *mask));
             array[*at] ^= mask;
         }
         self.recovers(&before, &old, "no due bit turned");
         due.len()
     }
 
-    /// Every prefix of the due bits of an erase, from none to all: the settings are as they were. Now and then the same command is
-    /// then run to its end, and they still are.
+    /// Every prefix of the due bits of an erase, from none to all: the settings are as they were, and the page with the bit that was turned
+    /// last is torn by all that were turned there. Now and then the same command is then run to its end, and they still are.
     fn each_prefix(mut self, call: &Call) -> usize {
         let (mut array, due) = self.due_of_erase(call);
         let settings = self.settings.clone();
+        let (mut page, mut by) = (0, 0);
         for n in 0..=due.len() {
             self.recovers(&array, &settings, &format!("the first {n} of {} bits erased", due.len()));
             if n % 1_000 == 0 || n == due.len() {
@@ -90,6 +93,9 @@ impl Device {
             }
             if let Some((at, mask)) = due.get(n) {
                 array[*at] ^= mask;
+                by = counts(*at, *mask) + if at / PAGE == page { by } else { 0 };
+                page = at / PAGE;
+                is_torn_by(&array, *at, by);
             }
         }
         due.len()
@@ -107,6 +113,23 @@ impl Device {
             self.store = after;
         }
         panic!("{call:?} never erases");
+    }
+}
+
+/// What a bit counts in the difference between Zeros and the zero bits: 1, and in Zeros its value there.
+fn counts(at: usize, mask: u8) -> i32 {
+    match at % PAGE {
+        526 => mask.into(),
+        527 => i32::from(mask) << 8,
+        _ => 1,
+    }
+}
+
+/// The page of a byte is torn by so much, on both layers. An erased page has the most that there can be.
+fn is_torn_by(array: &[u8], at: usize, by: i32) {
+    let due = if by == 0xFFFF { Class::Erased } else { Class::Torn(by) };
+    for layer in LAYERS {
+        assert_eq!(layer.class(&array[at / PAGE * PAGE..][..PAGE]), Some(due), "{layer:?}: page {}, byte {}", at / PAGE, at % PAGE);
     }
 }
 

@@ -1,8 +1,9 @@
 //! Random sequences of document 01 (docs/PAPERS.md) with cuts at random bits, against its book: after every cut a recovery gives each
-//! logical page as the book has it. Every call also goes to the plain layer, which must answer and leave the same.
+//! logical page as the book has it, and every torn page is torn by at least 1. Every call also goes to the plain layer, which must answer
+//! and leave the same.
 mod common;
 
-use bokuhira::{Call, Geometry, State, Store, DATA, PAGE, UNMAPPED};
+use bokuhira::{Call, Class, Geometry, State, Store, DATA, PAGE, UNMAPPED};
 use common::{due_bits, kind, lost_state, say, Layer, Met, Rng, NAMES};
 use std::collections::BTreeMap;
 
@@ -70,9 +71,12 @@ const TIDY: [usize; 9] = [1, 3, 8, 1, 1, 2, 10, 50, 0];
 const NO_CHECKPOINT: [usize; 9] = [2, 6, 30, 2, 1, 2, 1, 50, 0];
 const MOODS: [[usize; 9]; 8] = [MIXED, SHORT, SHORT, LONE, LONG, MANY, TIDY, NO_CHECKPOINT];
 
-/// The cuts made: between calls, and in each command's programs and erases, by whether no, some or all due bits were turned.
+/// The cuts made: between calls, and in each command's programs and erases, by whether no, some or all due bits were turned. And the torn
+/// pages met after them: on all pages, and in scan order.
 #[derive(Default)]
 struct Cuts {
+    torn: usize,
+    torn_in_scan_order: usize,
     between: usize,
     without_operation: usize,
     in_programs: [[usize; 3]; 10],
@@ -89,6 +93,8 @@ impl Cuts {
     }
 
     fn add(&mut self, other: &Cuts) {
+        self.torn += other.torn;
+        self.torn_in_scan_order += other.torn_in_scan_order;
         self.between += other.between;
         self.without_operation += other.without_operation;
         let here = self.in_programs.iter_mut().chain(&mut self.in_erases).flatten();
@@ -97,6 +103,8 @@ impl Cuts {
 
     /// A line for each kind of operation after a format; each must have been cut with no, some and all due bits turned.
     fn say(&self) {
+        say(&format!("  {} torn pages after them, each by at least 1; {} of them in scan order", self.torn, self.torn_in_scan_order));
+        assert!(self.torn > 10_000 && self.torn_in_scan_order > 1_000, "few torn pages were met");
         say(&format!("  {} between calls, {} in calls without an operation", self.between, self.without_operation));
         for (what, counts, commands) in [
             ("programs", &self.in_programs, &["write", "lone", "commit", "checkpoint", "reclaim"][..]),
@@ -302,8 +310,10 @@ impl Run {
                 _ => self.refused_format(),
             }
         }
+        self.torn_pages();
         self.call(&call);
         self.all_read();
+        self.torn_in_scan_order();
         let before = self.proved.clone();
         self.call(&call);
         assert!(self.proved == before, "recovering again changes something");
@@ -314,6 +324,25 @@ impl Run {
         self.plain.hold = hold;
         self.call(&call);
         assert!(self.proved == before, "recovering from another map and state gives something else");
+    }
+
+    /// Every torn page is torn by at least 1: nobody but the layer wrote to the array. Both layers class every page alike.
+    fn torn_pages(&mut self) {
+        for page in self.proved.array.chunks_exact(PAGE) {
+            let class = Layer::Proved.class(page);
+            assert_eq!(Layer::Plain.class(page), class, "the class of a page, plain layer");
+            if let Some(Class::Torn(by)) = class {
+                assert!(by >= 1, "a page of the layer is torn by {by}");
+                self.cuts.torn += 1;
+            }
+        }
+    }
+
+    /// The torn pages in scan order, as many on both layers.
+    fn torn_in_scan_order(&mut self) {
+        let torn = Layer::Proved.torn(&self.proved).expect("a state");
+        assert_eq!(Layer::Plain.torn(&self.plain), Some(torn), "torn pages in scan order, plain layer");
+        self.cuts.torn_in_scan_order += torn;
     }
 
     fn refused_format(&mut self) {

@@ -1,8 +1,8 @@
-//! Inputs that no sequence makes: any state bytes, any map, any array, any lengths. The proved library and the plain layer, written apart
-//! from it, must answer the same and leave the same bytes; a refusal leaves everything as it was.
+//! Inputs that no sequence makes: any state bytes, any map, any array, any page, any lengths. The proved library and the plain layer,
+//! written apart from it, must answer the same and leave the same bytes; a refusal leaves everything as it was.
 mod common;
 
-use bokuhira::{Call, Geometry, Kind, Place, State, Store, Work, Zones, DATA, HOLD, PAGE, STATE, UNMAPPED};
+use bokuhira::{Call, Class, Geometry, Kind, Place, State, Store, Work, Zones, DATA, HOLD, PAGE, STATE, UNMAPPED};
 use common::{compare, formatted, lost_state, put, say, spare, told, whole_page, zone_data, Layer, Met, Rng, LAYERS, NAMES};
 
 /// Worlds and the calls on them, drawn from one seed.
@@ -468,6 +468,34 @@ fn any_input_gives_the_same_on_both_layers() {
     for refusal in 1..=17 {
         assert!(met.in_all(refusal) > 0, "refusal {refusal} was never met");
     }
+}
+
+/// Pages near whole ones, and of any bytes and any length: both layers class them alike, and each class is met, torn above and below 0.
+#[test]
+fn any_page_has_one_class_on_both_layers() {
+    let mut maker = Maker::new(23);
+    let g = Geometry::new(8, 8, 16);
+    let (mut erased, mut whole, mut above, mut below, mut none) = (0, 0, 0, 0, 0);
+    for _ in 0..20_000 {
+        let mut page = maker.page(g);
+        match maker.below(5) {
+            0 => page[526..].copy_from_slice(&(maker.below(4_300) as u16).to_le_bytes()),
+            1 => page[maker.below(PAGE)] = maker.below(256) as u8,
+            2 => page.resize(*maker.rng.pick(&[0, DATA, PAGE - 1, PAGE, PAGE + 1]), 0xFF),
+            _ => (),
+        }
+        let class = Layer::Proved.class(&page);
+        assert_eq!(Layer::Plain.class(&page), class, "{page:?}");
+        *match class {
+            Some(Class::Erased) => &mut erased,
+            Some(Class::Whole) => &mut whole,
+            Some(Class::Torn(1..)) => &mut above,
+            Some(Class::Torn(_)) => &mut below,
+            None => &mut none,
+        } += 1;
+    }
+    say(&format!("hostile: {erased} erased pages, {whole} whole, {above} torn above 0, {below} below 0, {none} of another length"));
+    assert!([erased, whole, above, below, none].iter().all(|n| *n > 100));
 }
 
 /// Each bound of the geometry, with array, map and hold of the lengths that it asks: 1 on the one side; on the other a format begins, and zero

@@ -1,8 +1,9 @@
 //! Replays traces of document 01 (docs/PAPERS.md), call by call, through the proved library and through the plain layer: answer, operation,
-//! array, map, hold and state. traces/README.md says what a line means; traces/counts pins how many steps each trace compares.
+//! array, map, hold and state, and the classes of pages. traces/README.md says what a line means; traces/counts pins how many steps each
+//! trace compares.
 mod common;
 
-use bokuhira::{Call, Geometry, Kind, Place, State, Store, Work, Zones, PAGE, STATE};
+use bokuhira::{Call, Class, Geometry, Kind, Place, State, Store, Work, Zones, PAGE, STATE};
 use common::{due_bits, formatted, put, say, spare, whole_page, Layer, LAYERS};
 use std::collections::BTreeMap;
 use std::path::PathBuf;
@@ -173,10 +174,26 @@ fn op_agrees(before: &[u8], after: &[u8], op: &str, pages: usize) -> bool {
     before[..range.start] == after[..range.start] && before[range.end..] == after[range.end..] && inside(&before[range.clone()], &after[range])
 }
 
+/// A class as a trace writes it.
+fn class_words(class: Class) -> String {
+    match class {
+        Class::Torn(by) => format!("torn {by}"),
+        other => other.word().to_string(),
+    }
+}
+
+/// What was found, where that is not what the trace says.
+fn agree(got: String, said: &str) -> Result<(), String> {
+    if got == said {
+        Ok(())
+    } else {
+        Err(got)
+    }
+}
+
 /// What a call line leaves, where that is not what the trace says.
 fn call_line(layer: Layer, digests: &mut Digests, w: &mut Store, words: &[&str], said: &str) -> Result<(), String> {
     let before = w.clone();
-    let agree = |got: String| if got == said { Ok(()) } else { Err(got) };
     if words[0] == "format-to-the-end" {
         let Call::Format(g) = call_of(&[&["format"], &words[1..]].concat()) else { unreachable!() };
         let strides = g.blocks as usize + g.map_pages() + 1;
@@ -184,7 +201,7 @@ fn call_line(layer: Layer, digests: &mut Digests, w: &mut Store, words: &[&str],
         if answers[..strides - 1].iter().any(|a| *a != 255) {
             return Err(format!("format answered {answers:?}"));
         }
-        return agree(format!("{} {}", answers[strides - 1], digests.left(w)));
+        return agree(format!("{} {}", answers[strides - 1], digests.left(w)), said);
     }
     let call = call_of(words);
     let answer = layer.call(w, &call);
@@ -193,7 +210,8 @@ fn call_line(layer: Layer, digests: &mut Digests, w: &mut Store, words: &[&str],
         if *w != before || part.err().unwrap_or(0) != answer {
             return Err(format!("{answer}, then the part {part:?}"));
         }
-        return agree(format!("{answer} {}", part.map_or("-".to_string(), |p| format!("{:016x}", fnv(p.iter().copied())))));
+        let digest = part.map_or("-".to_string(), |p| format!("{:016x}", fnv(p.iter().copied())));
+        return agree(format!("{answer} {digest}"), said);
     }
     let (expected, rest) = said.split_once(' ').unwrap();
     let (op, due) = rest.strip_prefix('(').unwrap().split_once(") ").unwrap();
@@ -218,7 +236,7 @@ fn call_line(layer: Layer, digests: &mut Digests, w: &mut Store, words: &[&str],
     Ok(())
 }
 
-/// Runs a file; the calls and cuts that were compared. The other lines only make a world.
+/// Runs a file; the calls, cuts and classes that were compared. The other lines only make a world.
 fn replay(layer: Layer, name: &str, text: &str) -> usize {
     let mut w = Store::blank(Geometry::new(8, 8, 16));
     let mut kept: Option<Store> = None;
@@ -262,9 +280,13 @@ fn replay(layer: Layer, name: &str, text: &str) -> usize {
                 // a call that is cut gives no answer
                 let _ = layer.call(&mut after, &call_of(&words[1..slash]));
                 w.array = cut(&w.array, &after.array, &words[slash + 1..]);
-                let got = format!("array={:016x}", digests.of_array(&w.array));
-                found = Some(if got == said { Ok(()) } else { Err(got) });
+                found = Some(agree(format!("array={:016x}", digests.of_array(&w.array)), said));
             }
+            "class" => {
+                let class = layer.class(&w.array[n(1) * PAGE..(n(1) + 1) * PAGE]).expect("a page");
+                found = Some(agree(class_words(class), said));
+            }
+            "torn" => found = Some(agree(layer.torn(&w).expect("a state").to_string(), said)),
             _ if kept.is_some() => found = Some(call_line(layer, &mut digests, &mut w.clone(), &words, said)),
             _ => found = Some(call_line(layer, &mut digests, &mut w, &words, said)),
         }
@@ -300,7 +322,7 @@ fn traces_replay() {
         let found = counted(layer, &traces);
         assert_eq!(found, counts, "{layer:?}: other steps were compared than host/tests/traces/counts says");
         let steps: usize = found.lines().map(|l| number::<usize>(l.split_once(' ').unwrap().1)).sum();
-        say(&format!("vectors, {layer:?}: {steps} calls and cuts of {} files agree", traces.len()));
+        say(&format!("vectors, {layer:?}: {steps} calls, cuts and classes of {} files agree", traces.len()));
         assert!(traces.len() > 20 && steps > 4000, "{steps} steps of {} traces", traces.len());
     }
 }

@@ -3,9 +3,9 @@
 
 #define LENT array, 0, map, 0, hold, 0, state, 0
 
-void ignore(uint8_t *array, uint16_t *map, uint8_t *hold, uint8_t *state, size_t *at);
+void ignore(uint8_t *array, uint16_t *map, uint8_t *hold, uint8_t *state, size_t *at, int32_t *difference);
 
-void ignore(uint8_t *array, uint16_t *map, uint8_t *hold, uint8_t *state, size_t *at)
+void ignore(uint8_t *array, uint16_t *map, uint8_t *hold, uint8_t *state, size_t *at, int32_t *difference)
 {
     bokuhira_format(LENT, 8, 8, 16);
     bokuhira_recover(LENT, 8, 8, 16);
@@ -17,4 +17,5 @@ void ignore(uint8_t *array, uint16_t *map, uint8_t *hold, uint8_t *state, size_t
     bokuhira_read(LENT, at, 0);
     bokuhira_checkpoint(LENT);
     bokuhira_reclaim(LENT);
+    bokuhira_class(array, 0, difference);
 }

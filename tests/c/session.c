@@ -90,7 +90,18 @@ static void cut(void)
     memset(d.state, 0xA5, sizeof d.state);
 }
 
-/* Function n of the ten, the two that take any state first, on these state bytes. */
+/* The class of a page of so many bytes: it changes no buffer, and *difference only where the page is torn, by that much. */
+static int classed(const uint8_t *page, size_t page_len, uint8_t answer, int32_t by)
+{
+    int32_t difference = 77;
+    int same;
+
+    memcpy(&before, &d, sizeof d);
+    same = bokuhira_class(page, page_len, &difference) == answer && difference == (answer == BOKUHIRA_TORN ? by : 77);
+    return same && memcmp(&before, &d, sizeof d) == 0;
+}
+
+/* Function n of the ten that take a device, the two that take any state first, on these state bytes. */
 static uint8_t any(int n, uint8_t *state, size_t state_len)
 {
 #define ON d.array, sizeof d.array, d.map, LOGICAL, d.hold, sizeof d.hold, state, state_len
@@ -186,6 +197,21 @@ static void *session(void *nothing)
     uint8_t free_blocks;
     static struct lent old, after;
     size_t page, byte, place = BOKUHIRA_AT_PLACES;
+    int32_t missing;
+
+    /* a page by itself: all zero bits; another length; one zero bit, with Zeros of an erased page, 1 and 0 */
+    CHECK(classed(d.array, BOKUHIRA_PAGE, BOKUHIRA_TORN, -4208));
+    CHECK(classed(d.array, 0, BOKUHIRA_NO_PAGE, 0) && classed(d.array, BOKUHIRA_DATA, BOKUHIRA_NO_PAGE, 0));
+    CHECK(classed(d.array, BOKUHIRA_PAGE - 1, BOKUHIRA_NO_PAGE, 0) && classed(d.array, BOKUHIRA_PAGE + 1, BOKUHIRA_NO_PAGE, 0));
+    memset(d.array, 0xFF, sizeof d.array);
+    CHECK(classed(d.array, BOKUHIRA_PAGE, BOKUHIRA_ERASED, 0));
+    d.array[0] = 0x7F;
+    CHECK(classed(d.array, BOKUHIRA_PAGE, BOKUHIRA_TORN, 65534));
+    d.array[526] = 1;
+    d.array[527] = 0;
+    CHECK(classed(d.array, BOKUHIRA_PAGE, BOKUHIRA_WHOLE, 0));
+    d.array[526] = 0;
+    CHECK(classed(d.array, BOKUHIRA_PAGE, BOKUHIRA_TORN, -1));
 
     /* bytes that encode no state; a device that was never formatted */
     memset(d.array, 0x5A, sizeof d.array);
@@ -264,8 +290,14 @@ static void *session(void *nothing)
 
     for (page = 0; memcmp(old.array + page, after.array + page, BOKUHIRA_PAGE) == 0; page += BOKUHIRA_PAGE)
         ;
-    for (byte = 0; byte < BOKUHIRA_PAGE; byte++)
+    CHECK(classed(d.array + page, BOKUHIRA_PAGE, BOKUHIRA_ERASED, 0) && classed(after.array + page, BOKUHIRA_PAGE, BOKUHIRA_WHOLE, 0));
+    for (byte = 0, missing = 0; byte < BOKUHIRA_PAGE; byte++) {
         d.array[page + byte] = after.array[page + byte] | (byte % 2 ? 0x0F : 0x00);
+        for (i = 0; i < 8; i++)
+            if (((d.array[page + byte] ^ after.array[page + byte]) >> i & 1) != 0)
+                missing += byte < 526 ? 1 : 1 << (8 * (byte - 526) + (size_t)i);
+    }
+    CHECK(classed(d.array + page, BOKUHIRA_PAGE, BOKUHIRA_TORN, missing));
     cut();
     CHECK(recover() == BOKUHIRA_DONE);
     CHECK(reads(3, 0x33));

@@ -1,24 +1,32 @@
 -- What firmware relies on beside demand 3: there are such sequences, a power-up with any bytes is a step of one, a format handed zeros starts at
--- its first stride, and every read within a sequence answers as the book has it then.
+-- its first stride, every read within a sequence answers as the book has it then, and bokuhira_class tells of every torn page a difference of at
+-- least 1.
 use Prim.Native.Nat.{ℕ}
-use mathlib.Core.Path.{_≡_, refl}
-use mathlib.Core.Bool.{true, false}
+use mathlib.Core.Path.{_≡_, refl, ap, subst}
+use mathlib.Core.Bool.{Bool, true, false, cond}
 use mathlib.Core.List.{List, [], _∷_, _++_}
+use native.Mathlib.Omega.{arith}
 use lib.ListN.{length, replicate}
+use lib.Dec.{eqb}
+use lib.IntN.{ℤ, pos}
+use lib.Signed.{_≤ℤ_}
+use Rattle.model.specs.Page.{classOf, pageAt}
 use Rattle.model.specs.Geometry.{geometryOk}
 use Rattle.model.specs.Frame.{freshState}
 use Rattle.model.specs.Strides.{stridesDone}
 use Rattle.model.specs.Commands.{recover}
 use Rattle.model.specs.Book.{Event, called, cutBetween, blank}
-use Rattle.model.specs.Sequence.{live, Run}
+use Rattle.model.specs.Sequence.{Phase, live, dark, arrayOf, Run}
 use Rattle.model.specs.declared.Geometry.{Geometry}
+use Rattle.model.specs.declared.Class.{Class}
+use Rattle.model.specs.declared.Class.the-variants.{Erased, Whole, Torn}
 use Rattle.encoding.specs.Encoding.{workFrom, stateFrom, workCoded, encodes}
-use Rattle.bokuhira.specs.Calls.{startFrom}
+use Rattle.bokuhira.specs.Calls.{startFrom, classedOf, classCalled}
 use Rattle.sequence.specs.Start.{some-formatted}
-use Rattle.sequence.specs.Claims.{ReadsRight, reads-right}
+use Rattle.sequence.specs.Claims.{ReadsRight, reads-right, own-torn}
 use Rattle.archive.specs.Lent.{Lent, after}
-use Rattle.archive.specs.LentRuns.{LentPhase, on, off, LentStep, LentRun, stridesSaid, LentFormatted}
-use Rattle.archive.specs.Joined.{run-is, formatted-is}
+use Rattle.archive.specs.LentRuns.{LentPhase, on, off, lentArray, LentStep, LentRun, stridesSaid, LentFormatted}
+use Rattle.archive.specs.Joined.{Agrees, run-is, formatted-is}
 use Rattle.archive.specs.Theorem.{demand3-bytes}
 use Rattle.archive.specs.EveryRun.{every-run}
 use Rattle.archive.specs.Coded.{lentOf}
@@ -65,3 +73,29 @@ reads-right-bytes g l es p f r =
     let w = formatted-is g l f in
     let j = run-is g (on l) es p r (live (w .0)) (w .1 .1) in
     reads-right g (w .0) es (j .phase) (w .1 .0) (j .run)
+
+-- ---- a torn page of the array that such a list leaves, cut or not: what bokuhira_class tells of it
+class-torn : (xs : List ℕ) (z : ℤ) → classCalled xs z .class ≡ 2 → classOf xs ≡ Torn (classCalled xs z .difference)
+unfolding classCalled
+class-torn xs z = go (eqb (length xs) 528) (classOf xs)
+  where
+    go : (b : Bool) (c : Class) → cond b (classedOf z c) (record { class = 3; difference = z }) .class ≡ 2
+        → c ≡ Torn (cond b (classedOf z c) (record { class = 3; difference = z }) .difference)
+    go false c e = absurd (omega arith)
+    go true Erased e = absurd (omega arith)
+    go true Whole e = absurd (omega arith)
+    go true (Torn d) e = refl
+
+same-array : (p : LentPhase) (q : Phase) → Agrees p q → lentArray p ≡ arrayOf q
+same-array (on l) (live w) s = ap (λ (m : Lent). m .array) (s .is)
+same-array (on l) (dark xs) s = absurd s
+same-array (off xs) (live w) s = absurd s
+same-array (off xs) (dark ys) s = s
+
+pub own-torn-bytes : (g : Geometry) (l : Lent) (es : List Event) (p : LentPhase) → LentFormatted g l → LentRun g (on l) es p
+    → (k : ℕ) (z : ℤ) → classCalled (pageAt (lentArray p) k) z .class ≡ 2 → pos 1 ≤ℤ classCalled (pageAt (lentArray p) k) z .difference
+own-torn-bytes g l es p f r k z e =
+    let w = formatted-is g l f in
+    let j = run-is g (on l) es p r (live (w .0)) (w .1 .1) in
+    own-torn g (w .0) es (j .phase) (w .1 .0) (j .run) k _
+    (subst (λ (xs : List ℕ). classOf (pageAt xs k) ≡ Torn (classCalled (pageAt (lentArray p) k) z .difference)) (same-array p (j .phase) (j .agrees)) (class-torn (pageAt (lentArray p) k) z e))

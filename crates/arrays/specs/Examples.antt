@@ -6,10 +6,11 @@ use mathlib.Core.Logic.{inl}
 use Prim.Native.Nat.{ℕ, zero, suc, _<_}
 use native.Mathlib.Omega.{arith}
 use lib.ListN.{replicate, length-replicate}
+use lib.IntN.{pos}
 use lib.Count.{ones, onesIn}
 use Rattle.model.specs.Lists.{part, splice, same}
 use Rattle.model.specs.Bytes.{allFF, ands, ors, minus, zerosOf, zeroBits}
-use Rattle.model.specs.Page.{classOf, pageAt, blockAt, putPage, putBlock, pageBytes, sealed, blankAt, wholeAt, usedFrom}
+use Rattle.model.specs.Page.{classOf, tornBy, pageAt, blockAt, putPage, putBlock, pageBytes, sealed, blankAt, wholeAt, usedFrom}
 use Rattle.model.specs.World.{program, erase, applyOp, dueBits, turnedBits, turn, cutOp, everyTurned}
 use Rattle.model.specs.Geometry.{geometryOk}
 use Rattle.model.specs.Zones.{usedIn, cleanIn}
@@ -94,8 +95,8 @@ done-leans : Leans done
 done-leans = leans-apply 2 (program 0 image) fresh ok fresh-leans
 
 -- ---- cut: the last due bit of the first byte is not let
-one-left : classOf (pageAt (cutOp 2 (program 0 image) (84 ∷ []) fresh) 0) ≡ Torn
-unfolding image spare cutOp turn turnedBits dueBits putPage splice minus ands classOf allFF zeroBits ones onesIn pageBytes sealed pageAt part
+one-left : classOf (pageAt (cutOp 2 (program 0 image) (84 ∷ []) fresh) 0) ≡ Torn (pos 1)
+unfolding image spare cutOp turn turnedBits dueBits putPage splice minus ands classOf tornBy allFF zeroBits ones onesIn pageBytes sealed pageAt part
 one-left = refl
 
 one-left-told : everyTurned (dueBits 2 (program 0 image) fresh) (turnedBits 2 (program 0 image) (84 ∷ []) fresh) ≡ false
@@ -118,8 +119,8 @@ none-let : classOf (pageAt (cutOp 2 (erase 0) (replicate 528 0) done) 0) ≡ Who
 unfolding image spare applyOp cutOp turn turnedBits dueBits putPage putBlock blockAt splice zerosOf ors ands classOf allFF zeroBits ones onesIn pageBytes sealed pageAt part
 none-let = refl
 
-byte-left : classOf (pageAt (cutOp 2 (erase 0) (0 ∷ []) done) 0) ≡ Torn
-unfolding image spare applyOp cutOp turn turnedBits dueBits putPage putBlock blockAt splice zerosOf ors ands classOf allFF zeroBits ones onesIn pageBytes sealed pageAt part
+byte-left : classOf (pageAt (cutOp 2 (erase 0) (0 ∷ []) done) 0) ≡ Torn (pos 65531)
+unfolding image spare applyOp cutOp turn turnedBits dueBits putPage putBlock blockAt splice zerosOf ors ands classOf tornBy allFF zeroBits ones onesIn pageBytes sealed pageAt part
 byte-left = refl
 
 all-erased : classOf (pageAt (cutOp 2 (erase 0) [] done) 0) ≡ Erased

@@ -4,11 +4,15 @@ use mathlib.Core.Bool.{Bool, cond}
 use mathlib.Core.List.{List}
 use lib.ListN.{length, getD}
 use lib.Dec.{eqb}
+use lib.IntN.{ℤ}
 use Rattle.model.specs.Answers.{refused}
+use Rattle.model.specs.Page.{classOf}
 use Rattle.model.specs.Geometry.{unmapped}
 use Rattle.model.specs.World.{World}
 use Rattle.model.specs.Frame.{freshState}
 use Rattle.model.specs.Commands.{Call, read, Outcome, exec}
+use Rattle.model.specs.declared.Class.{Class}
+use Rattle.model.specs.declared.Class.the-variants.{Erased, Whole, Torn}
 use Rattle.model.specs.declared.Geometry.{Geometry}
 use Rattle.model.specs.declared.State.{State}
 use Rattle.encoding.specs.Encoding.{encodes, stateFrom, bytesOf}
@@ -73,3 +77,19 @@ foundOf lpn map at n = record { answer = n; at = cond (eqb n 0) (getD map lpn un
 -- a read
 unfoldable pub readCalled : ℕ → List ℕ → List ℕ → List ℕ → List ℕ → ℕ → Found
 readCalled lpn xs map hold bs at = foundOf lpn map at (cond (encodes bs) (exec (read lpn) (worldFrom xs map hold bs) .answer) 1)
+
+-- ---- the class of a page
+-- its number, and the difference
+pub record Classed : Type 0 where
+  pub class : ℕ
+  pub difference : ℤ
+
+-- a class as the caller has it: "with torn, the difference", with another what stood there
+abbrev pub classedOf : ℤ → Class → Classed
+classedOf z Erased = record { class = 0; difference = z }
+classedOf z Whole = record { class = 1; difference = z }
+classedOf z (Torn d) = record { class = 2; difference = d }
+
+-- that of a page; 3 for a part of another length
+unfoldable pub classCalled : List ℕ → ℤ → Classed
+classCalled xs z = cond (eqb (length xs) 528) (classedOf z (classOf xs)) (record { class = 3; difference = z })

@@ -1,16 +1,17 @@
 // The commands for callers in C or Rust (include/bokuhira.h). The array, the map, the hold and the state, as bytes (crate `encoding`), are
 // lent as slices. Nothing is required of a caller. Format and recover take any 2,366 bytes for the state, since after power-up anything
 // stands there; to the other commands bytes that encode no state are a bad frame, answered 1. An answer is a number, 0 done, 255 more, else
-// the refusal's, and a refusal leaves every slice as it was.
+// the refusal's, and a refusal leaves every slice as it was. Beside the commands stands the class of a page, for whoever looks into an array.
 ghost use mathlib.Core.Path.{_≡_};
 ghost use mathlib.Core.Bool.{true, cond};
 ghost use lib.ListN.{length};
 ghost use Rattle.model.specs.Answers.{number, refused};
 ghost use Rattle.model.specs.Commands.{format, recover, begin, write, lone, commit, abort, checkpoint, reclaim};
 ghost use Rattle.encoding.specs.Encoding.{encodes, stateFrom, bytesOf};
-ghost use Rattle.bokuhira.specs.Calls.{Result, called, startFrom, sized, started, Found, readCalled};
+ghost use Rattle.bokuhira.specs.Calls.{Result, called, startFrom, sized, started, Found, readCalled, Classed, classCalled};
 use device::Device;
 use device::Reply;
+use model::Class;
 use model::Geometry;
 use model::Spare;
 use model::State;
@@ -263,4 +264,23 @@ pub extern "C" fn bokuhira_reclaim(
     }
     let r = device(state).reclaim(array, map, hold);
     finish(state, r)
+}
+
+/// The class of a page: 0 erased, 1 whole, 2 torn, and then `difference` becomes Zeros minus the zero bits counted; 3 where the part is not 528 bytes long.
+#[no_mangle]
+pub extern "C" fn bokuhira_class(page: &[u8], difference: &mut i32) -> u8
+    ensures { λ r. ⌜ _≡_ {A = Classed} (record { class = r; difference = now (difference .exit) }) (classCalled (now (page .entry)) (now (difference .entry))) ⌝ }
+{
+    if page.len() != Spare::PAGE {
+        return 3;
+    }
+    let c = page::classify(page);
+    match c {
+        Class::Erased => 0,
+        Class::Whole => 1,
+        Class::Torn(d) => {
+            *difference = d;
+            2
+        }
+    }
 }

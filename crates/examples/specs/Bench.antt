@@ -7,7 +7,7 @@ use mathlib.Core.List.{List, [], _∷_, _++_}
 use lib.ListN.{drop, set, replicate}
 use Rattle.model.specs.Lists.{count, padTo}
 use Rattle.model.specs.Bytes.{le16}
-use Rattle.model.specs.Page.{classOf, pageBytes}
+use Rattle.model.specs.Page.{classOf, classNumber, pageBytes}
 use Rattle.model.specs.Geometry.{geometryOk}
 use Rattle.model.specs.Zones.{Entry, zonesOf}
 use Rattle.model.specs.Recovery.{committed, applied}
@@ -16,14 +16,12 @@ use Rattle.model.specs.Frame.{freePlace}
 use Rattle.model.specs.Commands.{Call, format, write, plan}
 use Rattle.model.specs.declared.Geometry.{Geometry}
 use Rattle.model.specs.declared.Spare.{Spare}
-use Rattle.model.specs.declared.Class.{Class}
-use Rattle.model.specs.declared.Class.the-variants.{Erased, Whole, Torn}
 use Rattle.model.specs.declared.Work.the-variants.{Idle}
 use Rattle.examples.specs.Unfolded.{go}
 use Rattle.examples.specs.Orders.{lent, format-answers}
 
 -- ---- inputs, and what the rules give for each
--- a page's data and spare area, of which the spare bytes or Zeros are asked; a page, of which the class is asked; the whole pages of a scan, of
+-- a page's data and spare area, of which the spare bytes or Zeros are asked; a page, of which the class is asked (0 erased, 1 whole, 2 torn); the whole pages of a scan, of
 -- which the number of marks that commit is asked; a checkpoint's last version with a scan, of which the versions applied are asked;
 -- a call on a world, of which the answer is asked
 pub data Input : Type 0 where
@@ -33,11 +31,6 @@ pub data Input : Type 0 where
   scanned : List Entry → Input
   redone : ℕ → List Entry → Input
   asked : Call → World → Input
-
-abbrev pub classNumber : Class → ℕ
-classNumber Erased = 0
-classNumber Whole = 1
-classNumber Torn = 2
 
 abbrev pub versions : List Entry → List ℕ
 versions [] = []
@@ -126,10 +119,10 @@ pageRows =
       says = 0x00 ∷ 0x00 ∷ 0x01 ∷ 0x00 ∷ 0x00 ∷ 0x00 ∷ 0x00 ∷ 0x00 ∷ 0x01 ∷ 0x00 ∷ 0x00 ∷ 0x00 ∷ 0x00 ∷ 0x00 ∷ 0x6E ∷ 0x00 ∷ [];
     }
     ∷ record { case = a; input = zerosOf (replicate 512 0xFF) spare1; says = 110 ∷ [] }
-    ∷ record { case = a; input = classed page1; says = classNumber Whole ∷ [] }
-    ∷ record { case = b; input = classed (set page1 520 0xFF); says = classNumber Torn ∷ [] }
+    ∷ record { case = a; input = classed page1; says = 1 ∷ [] }
+    ∷ record { case = b; input = classed (set page1 520 0xFF); says = 2 ∷ [] }
     ∷ record { case = c; input = zerosOf (replicate 512 0) spare1; says = 4206 ∷ [] }
-    ∷ record { case = d; input = classed (replicate 528 0xFF); says = classNumber Erased ∷ [] }
+    ∷ record { case = d; input = classed (replicate 528 0xFF); says = 0 ∷ [] }
     ∷ []
 
 abbrev pub scanRows : List Row

@@ -5,12 +5,13 @@ use Prim.Native.Nat.{ℕ, zero, suc, _+_, _-_, _*_}
 use mathlib.Core.Path.{_≡_, refl, ap}
 use mathlib.Core.Bool.{Bool, true, false, cond}
 use mathlib.Core.List.{List, [], _∷_, _++_}
-use lib.ListN.{length, take, drop, set, replicate}
+use lib.ListN.{length, take, drop, getD, set, replicate}
+use lib.IntN.{ℤ, pos, negsuc}
 use lib.Dec.{eqb}
 use Rattle.model.specs.Lists.{all, upFrom, padTo}
-use Rattle.model.specs.Page.{spareOf, pageBytes, spareBytes}
+use Rattle.model.specs.Page.{tornBy, spareOf, pageBytes, spareBytes}
 use Rattle.model.specs.Geometry.{geometryOk}
-use Rattle.model.specs.Zones.{Entry, Taken, zonesOf, listedIn, zoneListsOk, freeIndex, pastBlock, refill, slide}
+use Rattle.model.specs.Zones.{Entry, Taken, zonesOf, listedIn, zoneListsOk, freeIndex, pastBlock, refill, slide, tornOf}
 use Rattle.model.specs.Checkpoint.{Found, nothing, at, mapSpare, zoneSpare, mapBytes, zoneData, completeAt, newest, zonesIn, loadOk}
 use Rattle.model.specs.Recovery.{entryGood, pagesGood, applied, redone}
 use Rattle.model.specs.World.{World}
@@ -93,6 +94,9 @@ pub data Rule : Type 0 where
   rising-versions : Rule
   long-passes : Rule
   long-entered : Rule
+  torn-difference : Rule
+  torn-below-zero : Rule
+  torn-in-scan-order : Rule
   blocks-range : Rule
   pages-range : Rule
   logical-range : Rule
@@ -119,6 +123,11 @@ EveryGroup (g ∷ gs) = Every g × EveryGroup gs
 abbrev pub flag : Bool → ℕ
 flag true = 1
 flag false = 0
+
+-- a signed number: 1 and the number, 0 and how much it is below zero
+abbrev pub signed : ℤ → List ℕ
+signed (pos n) = 1 ∷ n ∷ []
+signed (negsuc n) = 0 ∷ suc n ∷ []
 
 -- a page or block that was found, if one was
 abbrev pub foundIn : Found → List ℕ
@@ -433,6 +442,37 @@ longRows =
     ∷ record { rule = long-entered; gives = redone 0 (changeOf 64) (replicate 64 65535); says = upFrom 16 64 }
     ∷ []
 
+-- ---- how torn a page is: document 02, "the difference Zeros minus counted zero bits"
+-- a page whose program was cut before the bit of this value in the byte at i was turned
+abbrev pub left : ℕ → ℕ → List ℕ
+left i bit = set (pageOf 5) i (getD (pageOf 5) i 0 + bit)
+
+-- a bit of the data, of TxID, of Zeros: each counts by its value in Zeros, every other as one
+abbrev pub tornRows : List Row
+tornRows =
+    record { rule = torn-difference; gives = signed (tornBy (left 0 128)) ++ (signed (tornBy (left 517 1)) ++ signed (tornBy (left 527 128))); says = 1 ∷ 1 ∷ 1 ∷ 1 ∷ 1 ∷ 32768 ∷ [] }
+    ∷ record { rule = torn-difference; gives = signed (tornBy (replicate 526 255 ++ (254 ∷ 255 ∷ []))); says = 1 ∷ 65534 ∷ [] }
+    ∷ record { rule = torn-below-zero; gives = signed (tornBy (replicate 528 0)) ++ signed (tornBy (set (pageOf 5) 516 4)); says = 0 ∷ 4208 ∷ 0 ∷ 1 ∷ [] }
+    ∷ []
+
+-- blocks of two pages: 3 unavailable, 4 and 2 available; then the same with 4 free, and with 3 in no list
+abbrev pub tornScanRows : List Row
+tornScanRows =
+    record {
+      rule = torn-in-scan-order;
+      gives =
+          tornOf someTorn 2 (zonesOf (4 ∷ 2 ∷ []) (3 ∷ []) [] 2)
+          ∷ tornOf someTorn 2 (zonesOf (2 ∷ []) (3 ∷ []) (4 ∷ []) 2)
+          ∷ tornOf someTorn 2 (zonesOf (2 ∷ 4 ∷ []) [] [] 2)
+          ∷ [];
+      says = 3 ∷ 2 ∷ 1 ∷ [];
+    }
+    ∷ []
+  where
+    -- 2: a whole page and an erased one; 3: two torn ones; 4: an erased and a torn one; a torn one in the front
+    someTorn : List ℕ
+    someTorn = left 0 128 ++ (replicate (3 * 528) 255 ++ (half 5 ++ ((left 0 128 ++ replicate 528 0) ++ (erasedPage ++ left 527 1))))
+
 -- ---- geometry: the bounds, and a format of buffers that fit
 abbrev pub geometryRows : List Row
 geometryRows =
@@ -504,6 +544,14 @@ long-rows : Every longRows
 unfolding go
 long-rows = (refl, (refl, tt))
 
+torn-rows : Every tornRows
+unfolding go
+torn-rows = (refl, (refl, (refl, tt)))
+
+torn-scan-rows : Every tornScanRows
+unfolding go
+torn-scan-rows = (refl, tt)
+
 geometry-rows : Every geometryRows
 unfolding go
 geometry-rows = (refl, (refl, (refl, (refl, tt))))
@@ -517,7 +565,7 @@ format-rows = (ap only (format-answers (shape 7 8 8)), (ap only (format-answers 
 
 abbrev pub table : List (List Row)
 table =
-    freeRows ∷ slideRows ∷ reclaimRows ∷ checkpointRows ∷ newestRows ∷ loadRows ∷ pageRows ∷ placeRows ∷ strideRows ∷ changeRows ∷ longRows ∷ geometryRows ∷ formatRows ∷ []
+    freeRows ∷ slideRows ∷ reclaimRows ∷ checkpointRows ∷ newestRows ∷ loadRows ∷ pageRows ∷ placeRows ∷ strideRows ∷ changeRows ∷ longRows ∷ tornRows ∷ tornScanRows ∷ geometryRows ∷ formatRows ∷ []
 
 pub rules : EveryGroup table
-rules = (free-rows, (slide-rows, (reclaim-rows, (checkpoint-rows, (newest-rows, (load-rows, (page-rows, (place-rows, (stride-rows, (change-rows, (long-rows, (geometry-rows, (format-rows, tt)))))))))))))
+rules = (free-rows, (slide-rows, (reclaim-rows, (checkpoint-rows, (newest-rows, (load-rows, (page-rows, (place-rows, (stride-rows, (change-rows, (long-rows, (torn-rows, (torn-scan-rows, (geometry-rows, (format-rows, tt)))))))))))))))

@@ -4,7 +4,7 @@ ghost use mathlib.Core.Path.{_≡_};
 ghost use Prim.Native.Nat.{_+_, _-_, _*_, _≤_};
 ghost use lib.ListN.{length};
 ghost use lib.Dec.{ltb};
-ghost use Rattle.model.specs.Page.{spareOf, pageBytes, pageAt, blankAt, wholeAt};
+ghost use Rattle.model.specs.Page.{spareOf, pageBytes, pageAt, blankAt, wholeAt, tornAt};
 ghost use Rattle.model.specs.Zones.{usedIn, cleanIn, nextIn};
 ghost use Rattle.model.specs.World.{applyOp, erase};
 ghost use Rattle.flash.specs.Programs.{Programmed};
@@ -35,6 +35,14 @@ pub fn is_whole(array: &[u8], k: usize) -> bool
     ensures { λ r. ⌜ r ≡ wholeAt (now (array .entry)) k ⌝ }
 {
     page::is_whole(page::classify(page_of(array, k)))
+}
+
+/// Whether page k is torn.
+pub fn is_torn(array: &[u8], k: usize) -> bool
+    requires { ⌜ k * 528 + 528 ≤ length (now array) ⌝ }
+    ensures { λ r. ⌜ r ≡ tornAt (now (array .entry)) k ⌝ }
+{
+    page::is_torn(page::classify(page_of(array, k)))
 }
 
 /// The spare area of page k before Zeros.

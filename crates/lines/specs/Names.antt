@@ -71,3 +71,9 @@ mappedName = bytes "mapped="
 
 pub mapped-bytes : mappedName ≡ 109 ∷ 97 ∷ 112 ∷ 112 ∷ 101 ∷ 100 ∷ 61 ∷ []
 mapped-bytes = refl
+
+abbrev pub tornName : List ℕ
+tornName = bytes "torn="
+
+pub torn-bytes : tornName ≡ 116 ∷ 111 ∷ 114 ∷ 110 ∷ 61 ∷ []
+torn-bytes = refl

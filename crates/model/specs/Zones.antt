@@ -4,8 +4,8 @@ use mathlib.Core.Bool.{Bool, true, false, not, cond, _&&_, _||_}
 use mathlib.Core.List.{List, [], _∷_, _++_}
 use lib.ListN.{length, take, getD, replicate}
 use lib.Dec.{leb, ltb, eqb}
-use Rattle.model.specs.Lists.{any, allHeads, find, keep, those, elem, rising, upFrom, padTo, without, insert}
-use Rattle.model.specs.Page.{spareOf, pageAt, wholeAt, usedFrom}
+use Rattle.model.specs.Lists.{any, allHeads, find, keep, those, count, elem, rising, upFrom, padTo, without, insert}
+use Rattle.model.specs.Page.{spareOf, pageAt, wholeAt, tornAt, usedFrom}
 use Rattle.model.specs.Geometry.{dataBlock}
 use Rattle.model.specs.declared.Geometry.{Geometry}
 use Rattle.model.specs.declared.Spare.{Spare}
@@ -119,6 +119,15 @@ scanIn xs p (b ∷ bs) = wholeFrom xs (b * p) p ++ scanIn xs p bs
 -- "Scan order is the unavailable blocks, then the available, each from page 0"
 unfoldable pub scanOf : List ℕ → ℕ → Zones → List Entry
 scanOf xs p z = scanIn xs p (unavailableOf z ++ availableOf z)
+
+-- the torn pages of some blocks
+unfoldable pub tornIn : List ℕ → ℕ → List ℕ → ℕ
+tornIn xs p [] = 0
+tornIn xs p (b ∷ bs) = count (tornAt xs) (upFrom (b * p) p) + tornIn xs p bs
+
+-- "the number of torn pages in scan order"
+unfoldable pub tornOf : List ℕ → ℕ → Zones → ℕ
+tornOf xs p z = tornIn xs p (unavailableOf z ++ availableOf z)
 
 -- some entry has the identifier
 unfoldable pub onPages : ℕ → List Entry → Bool

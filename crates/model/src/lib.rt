@@ -79,11 +79,12 @@ impl Spare {
     pub const ZONE_KIND: u8 = 2;
 }
 
-/// Erased: all 528 bytes 0xFF. Whole: otherwise, and Zeros agrees. Torn: neither; it belongs to nobody.
+/// Erased: all 528 bytes 0xFF. Whole: otherwise, and Zeros agrees. Torn: neither; it belongs to nobody, and Zeros minus the zero bits counted
+/// says how torn it is.
 pub enum Class {
     Erased,
     Whole,
-    Torn,
+    Torn(i32),
 }
 
 /// A transaction place: `count` pages written, the last of them held, those before it programmed on `ppns`.

@@ -9,11 +9,11 @@ use Rattle.lines.specs.Text.{numberLine}
 use Rattle.outcome.specs.Text.{stateText, answerText}
 
 -- a refusal, or more
-pub refused-text : (n : ℕ) (s : State) (map : List ℕ) → (n ≡ 0 → ⊥) → numberLine answerName n ≡ answerText n s map
+pub refused-text : (n : ℕ) (s : State) (map : List ℕ) (torn : ℕ) → (n ≡ 0 → ⊥) → numberLine answerName n ≡ answerText n s map torn
 unfolding answerText
-refused-text n s map h = rw (ne-eqb _ _ h, append-nil)
+refused-text n s map torn h = rw (ne-eqb _ _ h, append-nil)
 
 -- done
-pub done-text : (n : ℕ) (s : State) (map : List ℕ) → n ≡ 0 → numberLine answerName n ++ stateText s map ≡ answerText n s map
+pub done-text : (n : ℕ) (s : State) (map : List ℕ) (torn : ℕ) → n ≡ 0 → numberLine answerName n ++ stateText s map torn ≡ answerText n s map torn
 unfolding answerText
-done-text n s map h = rw (eq-eqb _ _ h)
+done-text n s map torn h = rw (eq-eqb _ _ h)

@@ -1,9 +1,9 @@
-// The lines that tell how a recovery ended: its answer, and, where it is done, the state and the map.
+// The lines that tell of a recovery that is done: the answer, the state, the map and the number of torn pages.
 ghost use mathlib.Core.Path.{_≡_};
 ghost use Prim.Native.Nat.{_+_, _≤_};
 ghost use lib.ListN.{length};
 ghost use Rattle.lines.specs.Text.{Put};
-ghost use Rattle.outcome.specs.Text.{mappedIn, zonesText, stateText, answerText};
+ghost use Rattle.outcome.specs.Text.{mappedIn, zonesText, countsText, stateText, answerText};
 use model::Map;
 use model::State;
 use model::Zones;
@@ -36,27 +36,33 @@ fn zone_lines(out: &mut [u8], at: usize, z: Zones) -> usize
     lines::blocks_line(out, b, b"free=", &free, z.nf)
 }
 
+/// Puts the lines of the numbers of mapped and of torn pages.
+fn count_lines(out: &mut [u8], at: usize, map: &[u16], torn: usize) -> usize
+    requires { ⌜ at + 60 ≤ length (now out) ⌝ }
+    ensures { λ r. ⌜ Put (now (out .entry)) at (countsText (now (map .entry)) torn) 60 (now (out .exit)) r ⌝ }
+{
+    let n = mapped(map);
+    let a = lines::number_line(out, at, b"mapped=", n as u64);
+    lines::number_line(out, a, b"torn=", torn as u64)
+}
+
 /// Puts the lines after the answer.
-fn state_lines(out: &mut [u8], at: usize, s: State, map: &[u16]) -> usize
+fn state_lines(out: &mut [u8], at: usize, s: State, map: &[u16], torn: usize) -> usize
     requires { ⌜ at + 6000 ≤ length (now out) ⌝ }
-    ensures { λ r. ⌜ Put (now (out .entry)) at (stateText s (now (map .entry))) 6000 (now (out .exit)) r ⌝ }
+    ensures { λ r. ⌜ Put (now (out .entry)) at (stateText s (now (map .entry)) torn) 6000 (now (out .exit)) r ⌝ }
 {
     let a = lines::number_line(out, at, b"checkpoint=", s.checkpoint as u64);
     let b = lines::number_line(out, a, b"version=", s.version as u64);
     let z = s.zones;
     let c = zone_lines(out, b, z);
-    let n = mapped(map);
-    lines::number_line(out, c, b"mapped=", n as u64)
+    count_lines(out, c, map, torn)
 }
 
-/// Puts the answer, and, where it is 0, the lines of the state and the map.
-pub fn answer_lines(out: &mut [u8], answer: u8, s: State, map: &[u16]) -> usize
+/// Puts the answer of a recovery that is done, and the lines after it.
+pub fn done_lines(out: &mut [u8], s: State, map: &[u16], torn: usize) -> usize
     requires { ⌜ 8192 ≤ length (now out) ⌝ }
-    ensures { λ r. ⌜ Put (now (out .entry)) 0 (answerText answer s (now (map .entry))) 8192 (now (out .exit)) r ⌝ }
+    ensures { λ r. ⌜ Put (now (out .entry)) 0 (answerText 0 s (now (map .entry)) torn) 8192 (now (out .exit)) r ⌝ }
 {
-    let at = lines::number_line(out, 0, b"answer=", answer as u64);
-    if answer != 0 {
-        return at;
-    }
-    state_lines(out, at, s, map)
+    let at = lines::number_line(out, 0, b"answer=", 0);
+    state_lines(out, at, s, map, torn)
 }

@@ -7,7 +7,7 @@ ghost use lib.ListN.{length, take, replicate};
 ghost use lib.Seq.{sets};
 ghost use Rattle.model.specs.Lists.{part};
 ghost use Rattle.model.specs.Bytes.{zeroBits, allFF, le16, le32, bytes16, bytes32};
-ghost use Rattle.model.specs.Page.{classOf, isWhole, spareOf, spareBytes, pageBytes};
+ghost use Rattle.model.specs.Page.{classOf, classNumber, isWhole, isTorn, spareOf, spareBytes, pageBytes};
 ghost use Rattle.page.specs.Words.{le64, bytes64};
 use model::Class;
 use model::Spare;
@@ -90,17 +90,16 @@ pub fn erased(page: &[u8]) -> bool
     common == 0xFFFF_FFFF_FFFF_FFFF
 }
 
-/// The class of a page that is not erased, by its zero bits, counted: whole if Zeros agrees, otherwise torn.
+/// The class of a page that is not erased, by its zero bits, counted: whole if Zeros agrees, otherwise torn by the difference.
 pub fn classed(page: &[u8], counted: u16) -> Class
     requires { ⌜ (length (now page) ≡ 528) × ((allFF (now page) ≡ false) × (counted ≡ zeroBits (take 526 (now page)))) ⌝ }
     ensures { λ r. ⌜ r ≡ classOf (now (page .entry)) ⌝ }
 {
     let stored = word16(page, Spare::ZEROS);
     if counted == stored {
-        Class::Whole
-    } else {
-        Class::Torn
+        return Class::Whole;
     }
+    Class::Torn(stored as i32 - counted as i32)
 }
 
 /// Erased, otherwise whole if Zeros agrees, otherwise torn.
@@ -129,6 +128,17 @@ pub fn read_spare(page: &[u8]) -> Spare
     }
 }
 
+/// The number of a class.
+pub fn number(c: Class) -> u8
+    ensures { λ r. ⌜ r ≡ classNumber c ⌝ }
+{
+    match c {
+        Class::Erased => 0,
+        Class::Whole => 1,
+        Class::Torn(_) => 2,
+    }
+}
+
 /// Whether a class is whole.
 pub fn is_whole(c: Class) -> bool
     ensures { λ r. ⌜ r ≡ isWhole c ⌝ }
@@ -136,7 +146,18 @@ pub fn is_whole(c: Class) -> bool
     match c {
         Class::Erased => false,
         Class::Whole => true,
-        Class::Torn => false,
+        Class::Torn(_) => false,
+    }
+}
+
+/// Whether a class is torn.
+pub fn is_torn(c: Class) -> bool
+    ensures { λ r. ⌜ r ≡ isTorn c ⌝ }
+{
+    match c {
+        Class::Erased => false,
+        Class::Whole => false,
+        Class::Torn(_) => true,
     }
 }
 

@@ -1,19 +1,11 @@
--- What programs in other languages get: numbers for classes, and parts of any length.
+-- What programs in other languages get, for parts of any length.
 use Prim.Native.Nat.{ℕ}
 use mathlib.Core.Bool.{cond}
 use mathlib.Core.List.{List}
 use lib.ListN.{length}
 use lib.Dec.{eqb}
-use Rattle.model.specs.Page.{classOf, pageBytes}
-use Rattle.model.specs.declared.Class.{Class}
-use Rattle.model.specs.declared.Class.the-variants.{Erased, Whole, Torn}
+use Rattle.model.specs.Page.{classOf, classNumber, pageBytes}
 use Rattle.model.specs.declared.Spare.{Spare}
-
--- 0 erased, 1 whole, 2 torn
-abbrev pub classNumber : Class → ℕ
-classNumber Erased = 0
-classNumber Whole = 1
-classNumber Torn = 2
 
 -- the number of a page's class, 3 for a part of another length
 unfoldable pub classed : List ℕ → ℕ

@@ -2,20 +2,8 @@
 // A part of another length is left as it is.
 ghost use mathlib.Core.Path.{_≡_};
 ghost use lib.ListN.{length, replicate};
-ghost use Rattle.pageffi.specs.Numbers.{classNumber, classed, programmed};
-use model::Class;
+ghost use Rattle.pageffi.specs.Numbers.{classed, programmed};
 use model::Spare;
-
-/// The number of a class.
-fn number(c: Class) -> u8
-    ensures { λ r. ⌜ r ≡ classNumber c ⌝ }
-{
-    match c {
-        Class::Erased => 0,
-        Class::Whole => 1,
-        Class::Torn => 2,
-    }
-}
 
 /// The class of a page: 0 erased, 1 whole, 2 torn, 3 where the part is not 528 bytes long.
 #[no_mangle]
@@ -25,7 +13,7 @@ pub extern "C" fn pageffi_class(page: &[u8]) -> u8
     if page.len() != Spare::PAGE {
         return 3;
     }
-    number(page::classify(page))
+    page::number(page::classify(page))
 }
 
 /// The same, its zero bits counted by the table, as recovery counts them.
@@ -37,7 +25,7 @@ pub extern "C" fn pageffi_class_by_table(page: &[u8]) -> u8
         return 3;
     }
     let table = table::table();
-    number(table::classify(page, &table))
+    page::number(table::classify(page, &table))
 }
 
 /// Programs a page with 512 bytes of data and this spare area.

@@ -1,5 +1,5 @@
 -- The report of a recovery, and of an input line by line. Assumes nothing.
-use mathlib.Core.Path.{_≡_, refl, sym, ap, _∙_}
+use mathlib.Core.Path.{_≡_, refl, sym, ap, _∙_, subst}
 use mathlib.Core.Bool.{Bool, true, false}
 use mathlib.Core.List.{List, _∷_}
 use Prim.Native.Nat.{ℕ, zero, suc, _+_, _≤_, _<_}
@@ -8,6 +8,7 @@ use lib.ListN.{length, take, replicate}
 use lib.Seq.{length-take-le}
 use Rattle.io.specs.Counts.{Counts}
 use borrow.Author.Tests.{lt-ltb, le-ltb}
+use Rattle.model.specs.Zones.{tornOf}
 use Rattle.model.specs.World.{World}
 use Rattle.model.specs.Geometry.{geometryOk, blankMap}
 use Rattle.model.specs.Frame.{freshState, lentOk}
@@ -20,21 +21,36 @@ use Rattle.arrays.specs.Ranges.{geometry-in}
 use Rattle.lines.specs.Input.{says, illFormed, lineOf}
 use Rattle.lines.specs.Names.{blocksName, pagesName, logicalName, answerName}
 use Rattle.lines.specs.Text.{numberLine, Put}
-use Rattle.reporting.specs.Report.{outcomeText, emptyHold, lent, arrayReport, reportOf}
+use Rattle.reporting.specs.Report.{tornPages, outcomeText, emptyHold, lent, arrayReport, reportOf, Scannable}
 use Rattle.lines.proofs.Putting.{put-within, put-is}
 use Rattle.outcome.specs.Text.{answerText}
 use Rattle.outcome.proofs.Answers.{refused-text}
+use Rattle.reporting.proofs.Done.{done-scannable}
 
--- ---- a recovery
-module _ (g : Geometry) (xs map ys map2 hold hold2 : List ℕ) (s t : State) (n k : ℕ)
-    (e : _≡_ {A = Outcome} (record { answer = n; world = record { array = ys; map = map2; hold = hold2; state = t } }) (exec (recover g) (record { array = xs; map = map; hold = hold; state = s })))
+-- ---- a recovery: the answer k, and what it leaves
+module _ (g : Geometry) (xs map map2 hold hold2 : List ℕ) (s t : State) (n k : ℕ)
+    (e : _≡_ {A = Outcome} (record { answer = n; world = record { array = xs; map = map2; hold = hold2; state = t } }) (exec (recover g) (record { array = xs; map = map; hold = hold; state = s })))
     (lies : hold ≡ emptyHold) (starts : s ≡ freshState g) (told : k ≡ n) where
-  out-is : _≡_ {A = Outcome} (record { answer = n; world = record { array = ys; map = map2; hold = hold2; state = t } }) (exec (recover g) (lent g xs map))
+  out-is : _≡_ {A = Outcome} (record { answer = n; world = record { array = xs; map = map2; hold = hold2; state = t } }) (exec (recover g) (lent g xs map))
   out-is = e ∙ rw (lies, starts)
 
-  pub recovery-told : {a b : List ℕ} {m r : ℕ} → Put a 0 (answerText k t map2) m b r → Put a 0 (outcomeText (exec (recover g) (lent g xs map))) m b r
-  unfolding outcomeText
-  recovery-told p = put-is (ap (λ (i : ℕ). answerText i t map2) told ∙ ap outcomeText out-is) p
+  text-is : answerText k t map2 (tornOf xs (t .geometry .pages) (t .zones)) ≡ outcomeText (exec (recover g) (lent g xs map))
+  unfolding outcomeText tornPages
+  text-is = ap (λ (i : ℕ). answerText i t map2 (tornOf xs (t .geometry .pages) (t .zones))) told ∙ ap outcomeText out-is
+
+  -- refused
+  pub refusal-told : (k ≡ 0 → ⊥) → {a b : List ℕ} {m r : ℕ} → Put a 0 (numberLine answerName k) m b r → m ≤ 8192
+      → Put a 0 (outcomeText (exec (recover g) (lent g xs map))) 8192 b r
+  refusal-told h p le = put-is (refused-text k t map2 (tornOf xs (t .geometry .pages) (t .zones)) h ∙ text-is) (put-within p le)
+
+  -- done: the blocks of the state's zones lie in the array, and what is counted on them is told
+  module _ (done : k ≡ 0) where
+    pub told-scannable : Scannable xs t
+    told-scannable = subst (Scannable xs) (ap (λ (o : Outcome). o .world .state) (sym e)) (done-scannable g _ (ap (λ (o : Outcome). o .answer) (sym e) ∙ sym told ∙ done))
+
+    pub recovery-told : (torn : ℕ) → torn ≡ tornOf xs (t .geometry .pages) (t .zones)
+        → {a b : List ℕ} {m r : ℕ} → Put a 0 (answerText 0 t map2 torn) m b r → Put a 0 (outcomeText (exec (recover g) (lent g xs map))) m b r
+    recovery-told torn c p = put-is (ap (λ (i : ℕ). answerText i t map2 torn) (sym done) ∙ ap (answerText k t map2) c ∙ text-is) p
 
 -- ---- an array
 -- more than 65,536 bytes
@@ -59,7 +75,7 @@ pub array-wide : {a b : List ℕ} {m r : ℕ} (g : Geometry) (xs : List ℕ) →
 unfolding arrayReport outcomeText
 array-wide g xs h k p le =
     let w = wide-refused g xs k in
-    rw (le-ltb _ _ h) (put-is (ap (numberLine answerName) (sym w) ∙ refused-text _ _ _ (λ z. omega (arith, w, z))) (put-within p le))
+    rw (le-ltb _ _ h) (put-is (ap (numberLine answerName) (sym w) ∙ refused-text _ _ _ _ (λ z. omega (arith, w, z))) (put-within p le))
 
 -- the map lent
 blank : (n m : ℕ) → n ≤ m → take {A = ℕ} n (replicate m 65535) ≡ replicate n 65535

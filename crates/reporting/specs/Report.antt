@@ -1,22 +1,30 @@
 -- The report: what the program writes, for every input.
-use Prim.Native.Nat.{ℕ}
+use Prim.Native.Nat.{ℕ, _≤_}
 use mathlib.Core.Bool.{cond}
-use mathlib.Core.List.{List}
+use mathlib.Core.List.{List, _++_}
 use lib.ListN.{length, replicate}
 use lib.Dec.{ltb}
 use Rattle.model.specs.Geometry.{blankMap}
+use Rattle.model.specs.Zones.{availableOf, unavailableOf, tornOf}
 use Rattle.model.specs.World.{World}
 use Rattle.model.specs.Frame.{freshState}
 use Rattle.model.specs.Commands.{Outcome, exec, recover}
 use Rattle.model.specs.declared.Geometry.{Geometry}
+use Rattle.model.specs.declared.State.{State}
+use Rattle.flash.specs.Ranges.{Within}
+use Rattle.blocks.specs.Blocks.{Counted}
 use Rattle.lines.specs.Input.{Line, says, illFormed, lineOf}
 use Rattle.lines.specs.Names.{blocksName, pagesName, logicalName, answerName}
 use Rattle.lines.specs.Text.{numberLine}
 use Rattle.outcome.specs.Text.{answerText}
 
--- the answer of a command, and, where it is done, the state and the map
+-- "the number of torn pages in scan order", by the zones of the world's state
+unfoldable pub tornPages : World → ℕ
+tornPages w = tornOf (w .array) (w .state .geometry .pages) (w .state .zones)
+
+-- the answer of a command, and, where it is done, the state, the map and the torn pages
 unfoldable pub outcomeText : Outcome → List ℕ
-outcomeText o = answerText (o .answer) (o .world .state) (o .world .map)
+outcomeText o = answerText (o .answer) (o .world .state) (o .world .map) (tornPages (o .world))
 
 -- a hold in which nothing stands
 unfoldable pub emptyHold : List ℕ
@@ -42,3 +50,10 @@ reportOf input =
     following (lineOf pagesName second) (λ (p : ℕ) (third : List ℕ).
     following (lineOf logicalName third) (λ (l : ℕ) (xs : List ℕ).
     arrayReport (record { blocks = b; pages = p; logical = l }) xs)))
+
+-- ---- what the count may rely on
+-- the blocks in scan order lie in the array, and the counts of the lists fit
+pub record Scannable (xs : List ℕ) (s : State) : Type 0 where
+  pub counts : Counted (s .zones)
+  pub blocks : Within (length xs) (s .geometry .pages) (unavailableOf (s .zones) ++ availableOf (s .zones))
+  pub short : s .geometry .pages ≤ 64

@@ -4,14 +4,27 @@ ghost use mathlib.Core.Path.{_≡_};
 ghost use Prim.Native.Nat.{_≤_};
 ghost use lib.ListN.{length, take};
 ghost use Rattle.io.specs.Counts.{Counts};
+ghost use Rattle.model.specs.Zones.{tornOf};
 ghost use Rattle.model.specs.Commands.{exec, recover};
 ghost use Rattle.lines.specs.Text.{Put};
-ghost use Rattle.reporting.specs.Report.{outcomeText, lent, arrayReport, reportOf};
+ghost use Rattle.reporting.specs.Report.{Scannable, outcomeText, lent, arrayReport, reportOf};
 use device::Device;
 use lines::Parsed;
 use model::Geometry;
 use model::Map;
 use model::State;
+
+/// The torn pages in scan order.
+fn torn_pages(array: &[u8], s: State) -> usize
+    requires { ⌜ Scannable (now array) s ⌝ }
+    ensures { λ r. ⌜ r ≡ tornOf (now (array .entry)) (s .geometry .pages) (s .zones) ⌝ }
+{
+    let z = s.zones;
+    let order = blocks::scan_order(z);
+    let list = order.list;
+    let n = order.n;
+    zones::torn_in(array, s.geometry.pages as usize, &list[..n])
+}
 
 /// Recovers with the map lent, and puts the report.
 fn recovered(out: &mut [u8], array: &[u8], map: &mut [u16], g: Geometry) -> usize
@@ -26,7 +39,11 @@ fn recovered(out: &mut [u8], array: &[u8], map: &mut [u16], g: Geometry) -> usiz
     let s = t.state;
     let a = r.answer;
     let answer = answers::number(a);
-    outcome::answer_lines(out, answer, s, map)
+    if answer != 0 {
+        return lines::number_line(out, 0, b"answer=", answer as u64);
+    }
+    let torn = torn_pages(array, s);
+    outcome::done_lines(out, s, map, torn)
 }
 
 /// Puts the report on an array.

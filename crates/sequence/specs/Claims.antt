@@ -1,12 +1,14 @@
--- What document 01 (docs/PAPERS.md) claims on the way to demand 3, of the worlds of a sequence, each sentence as a theorem.
+-- What documents 01 and 02 (docs/PAPERS.md) claim beside demand 3, of the worlds of a sequence, each sentence as a theorem.
 use mathlib.Core.Path.{_≡_, refl, sym, _∙_, subst}
 use mathlib.Core.Bool.{true, false, false≢true, _&&_}
 use Prim.Native.Nat.{ℕ, _<_}
 use native.Mathlib.Omega.{arith}
 use mathlib.Core.List.{List, [], _∷_, _++_}
 use lib.Dec.{ltb}
+use lib.IntN.{ℤ, pos}
+use lib.Signed.{_≤ℤ_}
 use borrow.Author.Tests.{lt-ltb}
-use Rattle.model.specs.Page.{spareOf}
+use Rattle.model.specs.Page.{classOf, spareOf, pageAt}
 use Rattle.model.specs.Geometry.{geometryOk, dataPage}
 use Rattle.model.specs.Zones.{entryOf}
 use Rattle.model.specs.Answers.{refused}
@@ -16,12 +18,16 @@ use Rattle.model.specs.Transactions.{readAnswer}
 use Rattle.model.specs.Strides.{isCheckpoint, isReclaim, picked, planFormat}
 use Rattle.model.specs.Commands.{Call, format, recover, begin, write, lone, commit, abort, read, checkpoint, reclaim, plan, carried, exec}
 use Rattle.model.specs.Book.{Book, Event, called, cutIn, cutBetween, blank, tell, story, pageOf, contentAnswer}
-use Rattle.model.specs.Sequence.{fits, Phase, live, dark, Allowed, isRecovery, cutEvent, cutArray, Step, call, cut, between, back, failed, lost, again, Run, stop, next, Formatted}
+use Rattle.model.specs.Sequence.{fits, Phase, live, dark, arrayOf, Allowed, isRecovery, cutEvent, cutArray, Step, call, cut, between, back, failed, lost, again, Run, stop, next, Formatted}
+use Rattle.model.specs.Torn.{OwnTorn}
 use Rattle.model.specs.declared.Geometry.{Geometry}
+use Rattle.model.specs.declared.Class.the-variants.{Torn}
 use Rattle.model.specs.declared.Work.{Work}
 use Rattle.arrays.specs.Tests.{and-both}
 use Rattle.arrays.specs.Ranges.{geometry-in}
 use Rattle.arrays.specs.Bytelist.{Bytes, true-bytes}
+use Rattle.arrays.specs.Arrays.{Leans}
+use Rattle.arrays.specs.Torn.{lean-torn}
 use Rattle.scanlog.specs.Sublist.{Sublist}
 use Rattle.sequence.specs.Live.{live-reads, scanned}
 use Rattle.sequence.specs.Start.{formatted-idle, some-formatted}
@@ -251,6 +257,18 @@ run-right g b p es q (next {q = r} {e = e} {es = fs} s t) h = (step-right g b p 
 
 pub reads-right : (g : Geometry) (w : World) (es : List Event) (p : Phase) → Formatted g w → Run g (live w) es p → ReadsRight g (blank g) es
 reads-right g w es p f r = run-right g (blank g) (live w) es p r (start-holds g w f)
+
+-- ---- "it can be below zero only on pages the layer never wrote"
+-- every page of a phase's array is lean
+phase-leans : (g : Geometry) (b : Book) (p : Phase) → Holds g b p → Leans (arrayOf p)
+phase-leans g b (live w) h = h .world .sound .lean
+phase-leans g b (dark xs) h = h .sound .lean
+
+pub holds-torn : (g : Geometry) (b : Book) (p : Phase) → Holds g b p → (k : ℕ) (d : ℤ) → classOf (pageAt (arrayOf p) k) ≡ Torn d → pos 1 ≤ℤ d
+holds-torn g b p h k d = lean-torn (pageAt (arrayOf p) k) d (phase-leans g b p h k)
+
+pub own-torn : OwnTorn
+own-torn g w es p f r = holds-torn g (story (blank g) es) p (run-holds g (blank g) (live w) es p r (start-holds g w f))
 
 -- ---- there are sequences, for every geometry in range
 pub some-sequence : (g : Geometry) → geometryOk g ≡ true → (w : World) × InSequence g [] w

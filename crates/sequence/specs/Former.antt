@@ -8,23 +8,28 @@ use native.Mathlib.Omega.{arith}
 use mathlib.Core.List.{List, [], _∷_}
 use lib.ListN.{length, getD}
 use lib.Dec.{eqb, leb, ltb}
+use lib.IntN.{ℤ, pos}
+use lib.Signed.{_≤ℤ_}
 use borrow.Author.Tests.{eqb-true, ne-eqb, ltb-true, lt-ltb, le-ltb, leb-true, leb-false, not-false}
+use Rattle.model.specs.Page.{classOf, pageAt}
 use Rattle.model.specs.Answers.{refused}
 use Rattle.model.specs.World.{World, Plan, refuse, dueBits, turnedBits, cutOp, programs}
 use Rattle.model.specs.Frame.{noPlace, frameOk, isIdle, gate}
 use Rattle.model.specs.Transactions.{unless, placeOf, zoneShort, longestChange, writePlan, planWrite}
 use Rattle.model.specs.Commands.{write, carried}
 use Rattle.model.specs.Book.{Book, Event, called, cutIn, blank, tell, story, entering}
-use Rattle.model.specs.Sequence.{fits, Phase, live, dark, Step, Run, stop, next, Formatted}
+use Rattle.model.specs.Sequence.{fits, Phase, live, dark, arrayOf, Step, Run, stop, next, Formatted}
 use Rattle.model.specs.Demand3.{Kept}
 use Rattle.model.specs.declared.Geometry.{Geometry}
 use Rattle.model.specs.declared.Place.{Place}
+use Rattle.model.specs.declared.Class.the-variants.{Torn}
 use Rattle.arrays.specs.Tests.{and-left, and-right}
 use Rattle.sequence.specs.Places.{placeAt}
 use Rattle.sequence.specs.View.{View, yes, view-test, view-cond}
 use Rattle.sequence.specs.Write.{WritesTo, write-view, view-shape, view-live}
 use Rattle.sequence.specs.Cuts.{quiet-told, write-cut}
 use Rattle.sequence.specs.Theorem.{Holds, step-holds, holds-kept, start-holds}
+use Rattle.sequence.specs.Claims.{holds-torn}
 
 -- ---- the former write
 -- "64 pages already written" was too long
@@ -170,3 +175,8 @@ former-run g b p es q (then {q = r} {e = e} {es = fs} s t) h = former-run g (tel
 
 pub former-kept : FormerKept
 former-kept g w es p f r = holds-kept g es p (former-run g (blank g) (live w) es p r (start-holds g w f))
+
+-- and a torn page's difference is at least 1 on these arrays too
+pub former-torn : (g : Geometry) (w : World) (es : List Event) (p : Phase) → Formatted g w → FormerRun g (live w) es p
+    → (k : ℕ) (d : ℤ) → classOf (pageAt (arrayOf p) k) ≡ Torn d → pos 1 ≤ℤ d
+former-torn g w es p f r = holds-torn g (story (blank g) es) p (former-run g (blank g) (live w) es p r (start-holds g w f))

@@ -4,3 +4,4 @@ pub mod Near
 pub mod Wanted
 pub mod Listed
 pub mod Sliding
+pub mod Torn

@@ -8,8 +8,9 @@ ghost use Prim.Native.Nat.{ℕ, _+_, _*_, _≤_, _<_};
 ghost use mathlib.Core.List.{_++_};
 ghost use lib.ListN.{length, take};
 ghost use lib.Dec.{eqb};
-ghost use Rattle.model.specs.Lists.{any, those};
-ghost use Rattle.model.specs.Zones.{entryAt, wholeFrom, scanIn, scanOf, onPages, isFull, staying, leaving, slide, unavailableOf};
+ghost use Rattle.model.specs.Lists.{any, those, count, upFrom};
+ghost use Rattle.model.specs.Page.{tornAt};
+ghost use Rattle.model.specs.Zones.{entryAt, wholeFrom, scanIn, scanOf, tornIn, onPages, isFull, staying, leaving, slide, unavailableOf};
 ghost use Rattle.flash.specs.Ranges.{Within};
 ghost use Rattle.blocks.specs.Blocks.{blocksOf, listOf};
 ghost use Rattle.zones.specs.Judging.{idAt, idsIn, wantedId, wantedBy, holdsBy, Ready, Near, Room, Leaving};
@@ -77,6 +78,37 @@ pub fn id_scanned(g: Geometry, array: &[u8], z: Zones, id: u32) -> bool
     let a = z.available;
     let na = z.na as usize;
     id_in(array, pages, &a[..na], id)
+}
+
+/// How many of the n pages from page k on are torn.
+fn torn_from(array: &[u8], k: usize, n: usize) -> usize
+    requires { ⌜ k * 528 + n * 528 ≤ length (now array) ⌝ }
+    ensures { λ r. ⌜ (r ≡ count (tornAt (now (array .entry))) (upFrom k n)) × (r ≤ n) ⌝ }
+{
+    let mut torn: usize = 0;
+    let mut i: usize = 0;
+    while i < n {
+        if flash::is_torn(array, k + i) {
+            torn += 1;
+        }
+        i += 1;
+    }
+    torn
+}
+
+/// How many pages of these blocks are torn.
+pub fn torn_in(array: &[u8], pages: usize, bs: &[u8]) -> usize
+    requires { ⌜ Within (length (now array)) pages (now bs) × (pages ≤ 64) ⌝ }
+    ensures { λ r. ⌜ r ≡ tornIn (now (array .entry)) pages (now (bs .entry)) ⌝ }
+{
+    let mut torn: usize = 0;
+    let mut i: usize = 0;
+    while i < bs.len() {
+        let b = bs[i] as usize;
+        torn += torn_from(array, b * pages, pages);
+        i += 1;
+    }
+    torn
 }
 
 /// The identifier of page k, or 0 where the page is not whole.

@@ -38,6 +38,8 @@ pub enum Command {
     Map(usize, u16),
     Byte(usize, u8),
     Page { at: usize, bytes: Vec<u8> },
+    Class(usize),
+    Torn,
     Show(Show),
     Draw(String),
     Export { file: String, raw: bool },

@@ -321,8 +321,7 @@ mod tests {
             assert!(session.line(line, &mut Vec::new()).is_ok());
         }
         let svg = svg(session.world.as_ref().unwrap());
-        let told =
-            ["page 16 (block 2, page 0): torn; Zeros ", "page 17 (block 2, page 1): whole; LPN 9", "page 18 (block 2, page 2): erased, and yet"];
+        let told = ["page 16 (block 2, page 0): torn by ", "page 17 (block 2, page 1): whole; LPN 9", "page 18 (block 2, page 2): erased, and yet"];
         let looks = [Look::TornHolds, Look::HoldsAnother, Look::ErasedHolds];
         for (told, look) in told.iter().zip(looks) {
             let kind = &KINDS[look as usize];

@@ -1,10 +1,10 @@
 //! Why a call answers 1, bad frame: which length, bound, entry, place or stride. As `why`, a diagnosis beside the proved answer.
 use crate::{
-    pages::{Class, Page},
+    pages::Page,
     ranges,
-    words::{page_name, plural},
+    words::{class_words, page_name, plural},
 };
-use bokuhira::{Call, Geometry, Kind, State, Store, PAGE, STATE};
+use bokuhira::{Call, Class, Geometry, Kind, State, Store, PAGE, STATE};
 
 /// Where a state's bytes count the blocks of each zone and the pages of each place, and where the work under way stands: offsets of
 /// include/bokuhira.h.
@@ -89,7 +89,7 @@ fn own_format(g: Geometry, store: &Store, state: &State) -> Option<String> {
 /// The next front page must be erased.
 fn next_page(g: Geometry, store: &Store, k: usize) -> Option<String> {
     let page = Page::read(&store.array[k * PAGE..(k + 1) * PAGE]);
-    (page.class != Class::Erased).then(|| format!("the next front page, {}, is {}", page_name(g, k), page.class.word()))
+    (page.class != Class::Erased).then(|| format!("the next front page, {}, is {}", page_name(g, k), class_words(page.class)))
 }
 
 #[cfg(test)]

@@ -85,7 +85,7 @@ const GROUPS: [(&str, &[Word]); 4] = [
 ];
 
 /// The words of traces and of worlds made by hand, as `help traces` lists them.
-const TRACES: [Word; 9] = [
+const TRACES: [Word; 11] = [
     word("page", "page PAGE DATA LPN TXCNT TXID TXVER KIND RESERVED", "makes that page whole with these fields"),
     word("raw", "raw PAGE HEX", "makes that page these 528 bytes"),
     word("byte", "byte I X", "sets byte I of the array"),
@@ -95,6 +95,8 @@ const TRACES: [Word; 9] = [
     word("dark", "dark [map=N hold=N]", "as a cut between two calls; the lost map and hold are filled with these numbers"),
     word("keep", "keep", "remembers the world; until 'back' each call starts from the world as it stands then"),
     word("back", "back", "puts the remembered world back"),
+    word("class", "class PAGE", "whether that page is erased, whole or torn, and by how much, as in: class 16 = torn 65327"),
+    word("torn", "torn", "how many pages in scan order are torn, as report prints it"),
 ];
 
 /// All words.

@@ -1,12 +1,12 @@
 //! How each page looks in a picture: its kind (colour, pattern and letter), the edges of its transaction's outline, and its words.
 use crate::{
     data::data_words,
-    pages::{Class, Page},
+    pages::Page,
     view::{Fate, Hold, View, Zone},
-    words::plural,
+    words::{plural, torn_words},
     world::World,
 };
-use bokuhira::{Call, Refusal};
+use bokuhira::{Call, Class, Refusal};
 
 /// The kinds of cells, in the order of `KINDS`.
 #[derive(Clone, Copy, PartialEq, Eq, Hash, Debug)]
@@ -97,8 +97,8 @@ pub fn look_of(page: &Page, fate: Fate, holds: Hold) -> Look {
     match (page.class, fate, holds) {
         (Class::Erased, _, Hold::Yet(_)) => Look::ErasedHolds,
         (Class::Erased, ..) => Look::Erased,
-        (Class::Torn, _, Hold::Yet(_)) => Look::TornHolds,
-        (Class::Torn, ..) => Look::Torn,
+        (Class::Torn(_), _, Hold::Yet(_)) => Look::TornHolds,
+        (Class::Torn(_), ..) => Look::Torn,
         (_, Fate::Bad, _) => by_hold(Look::BadHolds, Look::Bad, Look::Bad),
         (_, _, Hold::Yet(_)) => Look::HoldsAnother,
         (_, Fate::Active, _) => Look::Active,
@@ -176,7 +176,7 @@ fn group(view: &View, pages: &[Page], k: usize) -> Group {
 pub struct Words {
     /// What it is, with its number.
     pub one: String,
-    /// Whose it is; of a torn one, which is nobody's, how many zero bits it has.
+    /// Whose it is; of a torn one, which is nobody's, by how much it is torn.
     pub two: String,
     /// A mark's count of pages.
     pub mark: String,
@@ -196,10 +196,7 @@ pub fn words(world: &World, k: usize) -> Words {
     let p = &world.pages.list[k];
     match (p.class, p.kind) {
         (Class::Erased, _) => Words::default(),
-        (Class::Torn, _) => {
-            let tell = format!("torn; Zeros {}, counted {}", p.zeros, p.counted);
-            Words { one: "torn".into(), two: plural(p.counted as usize, "zero"), tell, ..Words::default() }
-        }
+        (Class::Torn(by), _) => Words { one: "torn".into(), two: format!("by {by}"), tell: torn_words(p), ..Words::default() },
         (Class::Whole, kind) => {
             let (lpn, version, none) = (format!("LPN {}", p.lpn), format!("v{}", p.ver), String::new);
             let (one, two, mark, version) = match (kind, p.id, p.cnt) {

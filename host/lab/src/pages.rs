@@ -1,24 +1,7 @@
-//! One page as a class reads it: erased, whole or torn, and the fields of its spare area; and all pages of an array, classed again
-//! only where the bytes changed.
-use bokuhira::{Geometry, DATA, PAGE};
+//! One page as a class reads it: its class, as the proved library gives it, and the fields of its spare area; and all pages of an array,
+//! classed again only where the bytes changed.
+use bokuhira::{Class, Geometry, DATA, PAGE};
 use std::sync::atomic::{AtomicU64, Ordering};
-
-#[derive(Clone, Copy, PartialEq, Eq, Debug)]
-pub enum Class {
-    Erased,
-    Whole,
-    Torn,
-}
-
-impl Class {
-    pub fn word(self) -> &'static str {
-        match self {
-            Class::Erased => "erased",
-            Class::Whole => "whole",
-            Class::Torn => "torn",
-        }
-    }
-}
 
 /// A page's class and the fields of its spare area. On a torn page the fields are only what stands there.
 #[derive(Clone, Copy, PartialEq, Eq, Debug)]
@@ -31,25 +14,31 @@ pub struct Page {
     pub kind: u8,
     pub reserved: u8,
     pub zeros: u16,
-    pub counted: u16,
 }
 
 impl Page {
     pub fn read(b: &[u8]) -> Page {
         let half = |at: usize| u16::from_le_bytes([b[at], b[at + 1]]);
         let word = |at: usize| u32::from_le_bytes([b[at], b[at + 1], b[at + 2], b[at + 3]]);
-        let counted = zeros(&b[..PAGE - 2]) as u16;
-        let zeros = half(526);
-        let class = match (counted, zeros) {
-            (0, 0xFFFF) => Class::Erased,
-            (c, z) if c == z => Class::Whole,
-            _ => Class::Torn,
-        };
-        Page { class, lpn: half(512), cnt: half(514), id: word(516), ver: word(520), kind: b[524], reserved: b[525], zeros, counted }
+        let class = Class::of(b).expect("a page of 528 bytes");
+        Page { class, lpn: half(512), cnt: half(514), id: word(516), ver: word(520), kind: b[524], reserved: b[525], zeros: half(526) }
+    }
+
+    /// The zero bits counted, as they follow from the class.
+    pub fn counted(&self) -> i32 {
+        match self.class {
+            Class::Erased => 0,
+            Class::Whole => self.zeros.into(),
+            Class::Torn(by) => i32::from(self.zeros) - by,
+        }
     }
 
     pub fn is_whole(&self) -> bool {
         self.class == Class::Whole
+    }
+
+    pub fn is_torn(&self) -> bool {
+        matches!(self.class, Class::Torn(_))
     }
 
     pub fn kind_word(&self) -> String {
@@ -63,7 +52,7 @@ impl Page {
 }
 
 /// The number of zero bits.
-pub fn zeros(bytes: &[u8]) -> u32 {
+fn zeros(bytes: &[u8]) -> u32 {
     let words = bytes.chunks_exact(8);
     let rest: u32 = words.remainder().iter().map(|b| b.count_zeros()).sum();
     rest + words.map(|w| u64::from_le_bytes(w.try_into().unwrap()).count_zeros()).sum::<u32>()

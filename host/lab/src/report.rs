@@ -6,12 +6,12 @@ use bokuhira::{Answer, Call};
 pub fn report(world: &World) -> String {
     let mut copy = World::import(world.geometry, world.store.array.clone());
     let (answer, _) = copy.call(&Call::Recover(world.geometry));
-    match copy.state() {
-        Some(s) if answer == Answer::Done => {
+    match (copy.state(), copy.torn_count()) {
+        (Some(s), Some(torn)) if answer == Answer::Done => {
             let z = &s.zones;
             let (a, u, f) = (trace::commas(&z.available), trace::commas(&z.unavailable), trace::commas(&z.free));
             format!(
-                "answer=0\ncheckpoint={}\nversion={}\navailable={a}\nunavailable={u}\nfree={f}\nmapped={}\n",
+                "answer=0\ncheckpoint={}\nversion={}\navailable={a}\nunavailable={u}\nfree={f}\nmapped={}\ntorn={torn}\n",
                 s.checkpoint,
                 s.version,
                 copy.mapped_count()

@@ -32,8 +32,9 @@ pub fn parse(line: &str, geometry: Option<Geometry>) -> Result<Option<Line>, Str
     let tokens: Vec<Token> = tokens.into_iter().take(equals.unwrap_or(usize::MAX)).map(|(t, _)| t).collect();
     let lower: Vec<String> = tokens.iter().map(|t| t.written().to_lowercase()).collect();
     let command = Words { tokens: &tokens, lower: &lower, geometry }.command()?;
-    if expected.is_some() && !matches!(command, Command::Call(_) | Command::FormatToTheEnd(_) | Command::UntilDone(_) | Command::Cut(..)) {
-        return Err("an expectation ('= ..') stands only behind a call or a cut".into());
+    let looks = matches!(command, Command::Class(_) | Command::Torn);
+    if expected.is_some() && !looks && !matches!(command, Command::Call(_) | Command::FormatToTheEnd(_) | Command::UntilDone(_) | Command::Cut(..)) {
+        return Err("an expectation ('= ..') stands only behind a call, a cut, class or torn".into());
     }
     if expected.as_deref() == Some("") {
         return Err("behind '=' an answer is expected, as in: begin 41 = 7".into());
@@ -95,6 +96,8 @@ impl Words<'_> {
                     _ => Err(format!("a raw page is {} hexadecimal digits", 2 * PAGE)),
                 }
             }
+            ("class", 2) => Ok(Command::Class(self.number(1, "page number", 0xFFFF)? as usize)),
+            ("torn", 1) => Ok(Command::Torn),
             ("show", 2) => match self.word(1) {
                 Some("zones") => Ok(Command::Show(Show::Zones)),
                 Some("map") => Ok(Command::Show(Show::Map)),

@@ -12,7 +12,7 @@ use crate::{
     spoil::spoil,
     sweep::sweep,
     trace,
-    words::{answer_words, call_line, geometry_words, page_name, plural},
+    words::{answer_words, call_line, class_words, geometry_words, page_name, plural},
     world::World,
 };
 use bokuhira::{Answer, Call, Geometry};
@@ -25,7 +25,7 @@ pub struct Session {
     pub history: History,
     /// How many commands were carried out.
     pub done: usize,
-    /// How many calls and cuts left all that their lines say, as in a trace.
+    /// How many lines gave all that they say, as in a trace.
     pub compared: usize,
     /// The lines carried out, as they were written; and how many commands came since they were saved, help not counted.
     lines: Vec<String>,
@@ -51,7 +51,8 @@ impl Session {
         };
         let next = self.command(&line, out)?;
         self.done += 1;
-        self.compared += line.expected.as_deref().is_some_and(trace::says_all) as usize;
+        let looks = matches!(line.command, Command::Class(_) | Command::Torn);
+        self.compared += line.expected.as_deref().is_some_and(|e| looks || trace::says_all(e)) as usize;
         if !matches!(line.command, Command::Save(_) | Command::Quit) {
             self.lines.push(written.into());
             self.unsaved += !matches!(line.command, Command::Help(_)) as usize;
@@ -94,6 +95,17 @@ impl Session {
                 let said = spoil(self.world_mut()?, &line.command)?;
                 say(&format!("{text}: {said}\n"))?;
                 self.record(text, &said);
+            }
+            Command::Class(k) => {
+                let pages = &self.world_mut()?.pages.list;
+                let page = pages.get(*k).ok_or_else(|| format!("there is no page {k}: pages are 0 to {}", pages.len() - 1))?;
+                trace::found_agrees(line.expected.as_deref(), trace::class_of(page.class))?;
+                say(&format!("{text}: {}\n", class_words(page.class)))?;
+            }
+            Command::Torn => {
+                let torn = self.world_mut()?.torn_count().ok_or("no scan order is known")?;
+                trace::found_agrees(line.expected.as_deref(), torn.to_string())?;
+                say(&format!("{text}: {} in scan order\n", plural(torn, "torn page")))?;
             }
             Command::Show(what) => say(&show(self.world_mut()?, what)?)?,
             Command::Draw(file) => {
@@ -263,7 +275,11 @@ impl Session {
         let said = match cut.op {
             Op::Nothing => cut.nothing.clone(),
             Op::Program(k) => {
-                format!("power lost in the program of {}; {turned}; the page is {}", page_name(world.geometry, k), world.pages.list[k].class.word())
+                format!(
+                    "power lost in the program of {}; {turned}; the page is {}",
+                    page_name(world.geometry, k),
+                    class_words(world.pages.list[k].class)
+                )
             }
             Op::Erase(b) => format!("power lost in the erase of block {b}; {turned}"),
         };
@@ -308,13 +324,33 @@ mod tests {
     }
 
     #[test]
+    fn torn_pages_are_counted_where_there_is_a_scan_order() {
+        let mut session = Session::default();
+        assert!(session.line("blank 8 8 16", &mut Vec::new()).is_ok());
+        assert_eq!(session.line("torn", &mut Vec::new()).err().as_deref(), Some("no scan order is known"));
+        let mut said = Vec::new();
+        for line in ["format-to-the-end", "cut lone 3 2 / first 1", "cut", "torn", "recover", "torn", "class 16"] {
+            said.clear();
+            assert!(session.line(line, &mut said).is_ok(), "{line}");
+            assert!(line != "torn" || said == b"torn: 1 torn page in scan order\n");
+        }
+        assert_eq!(said, b"class 16: torn by 65534\n");
+    }
+
+    #[test]
     fn a_step_is_compared_where_its_line_says_all() {
         let mut session = Session::default();
         for line in ["format-to-the-end 8 8 16 = 0", "begin 5 = 0", "begin 5 = 7 (-) same", "read 3 = 14 -", "read 3 = 14", "begin 6"] {
             assert!(session.line(line, &mut Vec::new()).is_ok(), "{line}");
         }
         assert_eq!(session.compared, 2);
-        assert!(session.line("begin 5 = 8 (-) same", &mut Vec::new()).is_err());
-        assert_eq!(session.compared, 2);
+        for line in ["byte 8448 254", "byte 0 0", "class 16 = torn 65534", "class 17 = erased", "class 1 = whole", "class 0", "torn = 1", "torn"] {
+            assert!(session.line(line, &mut Vec::new()).is_ok(), "{line}");
+        }
+        assert_eq!(session.compared, 6);
+        for line in ["begin 5 = 8 (-) same", "class 16 = torn", "class 16 = torn 65535", "class 64 = erased", "torn = 2", "torn = 1 page"] {
+            assert!(session.line(line, &mut Vec::new()).is_err(), "{line}");
+        }
+        assert_eq!(session.compared, 6);
     }
 }

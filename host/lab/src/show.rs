@@ -2,13 +2,12 @@
 use crate::{
     command::Show,
     data::data_words,
-    pages::Class,
     trace::kind_word,
     view::{Fate, Hold, View, Zone},
-    words::{numbers, page_name, plural},
+    words::{class_words, numbers, page_name, plural, torn_words},
     world::World,
 };
-use bokuhira::{Kind, DATA, UNMAPPED};
+use bokuhira::{Class, Kind, DATA, UNMAPPED};
 use std::ops::Range;
 
 pub fn show(world: &World, what: &Show) -> Result<String, String> {
@@ -124,7 +123,7 @@ fn checkpoints(world: &World, view: &View) -> String {
 fn fate_words(world: &World, view: &View, k: usize) -> String {
     let p = &world.pages.list[k];
     let fate = match (p.class, view.clauses.get(&k)) {
-        (Class::Torn, _) => format!("belongs to nobody (Zeros {}, counted {})", p.zeros, p.counted),
+        (Class::Torn(_), _) => format!("belongs to nobody ({})", torn_words(p)),
         (_, Some(clause)) => format!("{}: {clause}", view.fates[k].word()),
         _ => view.fates[k].word().into(),
     };
@@ -174,18 +173,18 @@ fn block(world: &World, view: &View, b: usize) -> String {
 fn page(world: &World, view: &View, k: usize) -> String {
     let p = &world.pages.list[k];
     let b = k / world.geometry.pages as usize;
-    let mut text = format!("{}, {}: {}\n", page_name(world.geometry, k), view.zones[b].word(), p.class.word());
-    if let (Class::Erased | Class::Torn, Hold::Yet(lpn)) = (p.class, view.holds[k]) {
+    let mut text = format!("{}, {}: {}\n", page_name(world.geometry, k), view.zones[b].word(), class_words(p.class));
+    if let (Class::Erased | Class::Torn(_), Hold::Yet(lpn)) = (p.class, view.holds[k]) {
         text += &format!("  and yet holds LPN {lpn}: a read gives its data as they stand\n");
     }
     if p.class == Class::Erased {
         return text;
     }
-    if p.class == Class::Torn {
+    if p.is_torn() {
         text += "  what stands there, though a torn page belongs to nobody:\n";
     }
     text += &format!("  LPN {}, TxCnt {}, TxID {}, TxVer {}, Kind {}, Reserved {}\n", p.lpn, p.cnt, p.id, p.ver, p.kind, p.reserved);
-    text += &format!("  Zeros {}, counted {}, difference {}\n", p.zeros, p.counted, p.zeros as i32 - p.counted as i32);
+    text += &format!("  Zeros {}, counted {}\n", p.zeros, p.counted());
     if p.is_whole() {
         text += &format!("  transaction: {}{}\n", fate_words(world, view, k), holds_unknown(view, b));
     }
@@ -213,7 +212,7 @@ fn map(world: &World, view: &View) -> String {
         let but = match p.class {
             Class::Whole if p.lpn as usize == lpn => String::new(),
             Class::Whole => format!("; but that page carries LPN {}", p.lpn),
-            class => format!("; but that page is {}", class.word()),
+            class => format!("; but that page is {}", class_words(class)),
         };
         text += &format!("  LPN {lpn:4} is in {}: {}{but}\n", page_name(world.geometry, k), data_words(world.data(k)));
     }

@@ -1,5 +1,9 @@
 //! The words that write past the layer.
-use crate::{command::Command, words::page_name, world::World};
+use crate::{
+    command::Command,
+    words::{class_words, page_name},
+    world::World,
+};
 use bokuhira::{State, PAGE};
 
 /// Carries one of them out, and says what was done.
@@ -24,7 +28,7 @@ pub fn spoil(world: &mut World, command: &Command) -> Result<String, String> {
         Command::Byte(at, _) => Err(format!("there is no byte {at}: bytes are 0 to {}", len - 1)),
         Command::Page { at, bytes } if (at + 1) * PAGE <= len => {
             world.spoil(at * PAGE, bytes);
-            Ok(format!("{} is made by hand: {}", page_name(world.geometry, *at), world.pages.list[*at].class.word()))
+            Ok(format!("{} is made by hand: {}", page_name(world.geometry, *at), class_words(world.pages.list[*at].class)))
         }
         Command::Page { at, .. } => Err(format!("there is no page {at}: pages are 0 to {}", len / PAGE - 1)),
         _ => unreachable!("no word that spoils"),

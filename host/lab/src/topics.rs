@@ -1,6 +1,6 @@
 //! The longer explanations behind `help`.
 
-pub const TOPICS: [(&str, &str); 7] = [
+pub const TOPICS: [(&str, &str); 8] = [
     (
         "how",
         "HOW says which of the due bits a cut leaves turned. The due bits are those that the call's one\n\
@@ -28,12 +28,12 @@ pub const TOPICS: [(&str, &str); 7] = [
     (
         "pages",
         "A page is erased (all ones), whole (its Zeros field agrees with its zero bits) or torn (it does not;\n\
-         a torn page belongs to nobody). A whole page belongs to a transaction, by its TxID; a page with\n\
-         TxID 0 is a lone write, a transaction by itself. A page with TxCnt above 0 is its mark. Scan order\n\
-         is the unavailable blocks, then the available ones. Clean are the erased pages after the last one of\n\
-         a block that is not erased; only these are programmed. The pointer is the block from which on a\n\
-         checkpoint takes free ones. A stride is what one call of a format, a checkpoint or a reclaim does: at\n\
-         most one program or erase.\n\
+         a torn page belongs to nobody; 'help torn': by how much). A whole page belongs to a transaction, by\n\
+         its TxID; a page with TxID 0 is a lone write, a transaction by itself. A page with TxCnt above 0 is\n\
+         its mark. Scan order is the unavailable blocks, then the available ones. Clean are the erased pages\n\
+         after the last one of a block that is not erased; only these are programmed. The pointer is the block\n\
+         from which on a checkpoint takes free ones. A stride is what one call of a format, a checkpoint or a\n\
+         reclaim does: at most one program or erase.\n\
          \x20 active            its identifier is one of an open change\n\
          \x20 committed         its mark's TxCnt equals the number of its whole pages in scan order, and TxVer\n\
          \x20                   is above the last version in the newest checkpoint: a recovery enters it\n\
@@ -55,6 +55,21 @@ pub const TOPICS: [(&str, &str); 7] = [
          none that is complete. After a cut the state is lost; zones and 'holds' are then shown as a recovery\n\
          will find them. Where recover refuses there is no map, and nothing is said of what holds. The zones\n\
          are then known only if it refuses with 4, after it has passed the checkpoint.",
+    ),
+    (
+        "torn",
+        "Torn by N: N is the page's Zeros field minus the zero bits counted in the 526 bytes before it. After a\n\
+         program that was cut it is what is still missing: each due bit of the 526 bytes that was not turned\n\
+         counts 1, bit i of Zeros counts 2 to the power of i. It falls with each bit that is turned.\n\
+         \x20 early             the plug was pulled early: a large number, at most 65534\n\
+         \x20 late              the plug was pulled late: a small number, at least 1\n\
+         It does not tell how many bits are missing. Which turn first is the chip's affair, and 32768 may be\n\
+         one bit of Zeros. Of two cuts of one program, where the second turned all that the first had and\n\
+         more, the second has the smaller number; between two different pages it is a hint only.\n\
+         After an erase that was cut it is the other way round, early small and late large; the pages of such\n\
+         a block are not in scan order.\n\
+         It is never below 0 on a page as the layer left it. Where it is, a bit changed by itself, or something\n\
+         else wrote to the flash.",
     ),
     (
         "data",

@@ -1,7 +1,7 @@
 //! What a trace says behind `=`: digests, states as words, and whether a call or a cut agrees with it.
-use crate::pages::{Class, Op};
+use crate::pages::Op;
 use crate::world::World;
-use bokuhira::{Answer, Geometry, Kind, Place, Refusal, State, Store, Work, Zones, PAGE};
+use bokuhira::{Answer, Class, Geometry, Kind, Place, Refusal, State, Store, Work, Zones, PAGE};
 use std::collections::HashMap;
 
 /// 64-bit FNV-1a.
@@ -113,6 +113,14 @@ fn place_of(word: &str) -> Option<Place> {
     Some(place)
 }
 
+/// A class as a trace says it.
+pub fn class_of(class: Class) -> String {
+    match class {
+        Class::Torn(by) => format!("torn {by}"),
+        other => other.word().into(),
+    }
+}
+
 /// Whether what is said is all that a trace says of a step, and not the answer alone.
 pub fn says_all(said: &str) -> bool {
     said.contains([' ', '='])
@@ -150,6 +158,14 @@ pub fn agrees(said: &str, answer: Answer, op: Op, before: &Store, world: &World)
         Ok(())
     } else {
         Err(format!("expected {said_left}\n  found {found}"))
+    }
+}
+
+/// The same for what was found without a call, a class or how many pages are torn.
+pub fn found_agrees(expected: Option<&str>, found: String) -> Result<(), String> {
+    match expected {
+        Some(expected) if expected != found => Err(format!("expected {expected}, found {found}")),
+        _ => Ok(()),
     }
 }
 

@@ -2,10 +2,10 @@
 //! page's transaction.
 use crate::{
     checkpoints::{complete, newest, Checkpoint},
-    pages::{Class, Page},
+    pages::Page,
     why::{bad_pages, Why},
 };
-use bokuhira::{Geometry, Kind, State};
+use bokuhira::{Class, Geometry, Kind, State};
 use std::collections::{HashMap, HashSet};
 
 #[derive(Clone, Copy, PartialEq, Eq, Debug)]

@@ -3,9 +3,9 @@
 //! answer decides.
 use crate::{
     checkpoints::{complete, is_page, newest, Checkpoint},
-    pages::{Class, Page},
+    pages::Page,
     ranges,
-    words::{page_name, page_words, plural, refusal_words},
+    words::{class_words, page_name, page_words, plural, refusal_words},
 };
 use bokuhira::{Geometry, Refusal, Store, DATA, PAGE, UNMAPPED};
 use std::collections::{BTreeSet, HashMap};
@@ -67,8 +67,8 @@ fn front(g: Geometry, pages: &[Page]) -> String {
 
 /// How many pages of each class a front block has, and the newest checkpoint of which it has a part.
 fn front_block(g: Geometry, pages: &[Page], b: usize) -> String {
-    let count = |class: Class| (pages.iter().filter(|p| p.class == class).count(), class.word());
-    let classes = [Class::Whole, Class::Torn, Class::Erased].map(count).into_iter().filter(|(n, _)| *n > 0);
+    let count = |word: &'static str| (pages.iter().filter(|p| p.class.word() == word).count(), word);
+    let classes = ["whole", "torn", "erased"].map(count).into_iter().filter(|(n, _)| *n > 0);
     let classes: Vec<String> = classes.map(|(n, word)| format!("{n} {word}")).collect();
     // each page of a checkpoint says at which page its checkpoint would begin
     let is_part = |k: &usize| pages[*k].lpn as usize <= *k && is_page(g, &pages[*k], pages[*k].lpn as usize, pages[*k].ver);
@@ -87,7 +87,7 @@ fn front_page(g: Geometry, pages: &[Page], number: u32, k: usize, i: usize) -> S
     match pages.get(k) {
         None => format!("{name} past the block's end"),
         Some(p) if p.is_whole() && !is_page(g, p, i, number) => format!("no {name} but {}", page_words(p)),
-        Some(p) => format!("{name} {}", p.class.word()),
+        Some(p) => format!("{name} {}", class_words(p.class)),
     }
 }
 
@@ -217,8 +217,8 @@ mod tests {
                 "a map of # entries",
                 "a hold of # bytes",
                 "front block #: # whole, # torn, # erased pages (checkpoint #: ",
-                "map page # whole, zone page torn",
-                "map page # torn, zone page whole",
+                "map page # whole, zone page torn by #",
+                "map page # torn by -#, zone page whole",
                 "no zone page but map page # of checkpoint #",
                 "; parts of # more)",
                 "a zone page for # map pages stands there, so for # to # logical pages, and # were given",

@@ -4,7 +4,7 @@ use crate::{
     pages::{Op, Page},
     world::World,
 };
-use bokuhira::{Answer, Call, Geometry, Kind, Refusal};
+use bokuhira::{Answer, Call, Class, Geometry, Kind, Refusal};
 
 pub fn answer_words(answer: Answer) -> String {
     match answer {
@@ -23,6 +23,19 @@ pub fn refusal_words(r: Refusal) -> String {
 pub fn page_name(g: Geometry, k: usize) -> String {
     let p = g.pages as usize;
     format!("page {k} (block {}, page {})", k / p, k % p)
+}
+
+/// As in "torn by 65327".
+pub fn class_words(class: Class) -> String {
+    match class {
+        Class::Torn(by) => format!("torn by {by}"),
+        other => other.word().into(),
+    }
+}
+
+/// A torn page, as in "torn by 65327: Zeros 65535, counted 208".
+pub fn torn_words(p: &Page) -> String {
+    format!("{}: Zeros {}, counted {}", class_words(p.class), p.zeros, p.counted())
 }
 
 /// The fields of a whole page in words.

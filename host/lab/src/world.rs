@@ -107,6 +107,12 @@ impl World {
         self.store.map.iter().filter(|e| **e != UNMAPPED).count()
     }
 
+    /// How many pages in scan order are torn; none where no scan order is known.
+    pub fn torn_count(&self) -> Option<usize> {
+        let view = self.view();
+        view.zones_known().then(|| view.scan().filter(|k| self.pages.list[*k].is_torn()).count())
+    }
+
     /// Carries out one call.
     pub fn call(&mut self, call: &Call) -> (Answer, Op) {
         let answer = self.store.call(call);

@@ -55,7 +55,7 @@ fn a_name_is_said_as_it_was_typed() {
 #[test]
 fn no_line_ends_the_lab() {
     let words = "format format-to-the-end recover begin write lone commit abort read checkpoint reclaim cut show report geometry say help import \
-         page raw byte map state blank dark keep back zones block changes transactions book checkpoints all bits first last but every none = == / \
+         page raw byte map state blank dark keep back class torn zones block changes transactions book checkpoints all bits first last but every none = == / \
          # 50% 101% -1 0 1 2 3 5 8 8 16 17 40 64 255 65535 65536 4294967295 0x10 0xZZ short \"VLAN\" \"\" \" é map=7 hold=0 lab> raw pages";
     let words: Vec<&str> = words.split_whitespace().collect();
     let usual = [

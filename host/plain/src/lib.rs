@@ -2,7 +2,7 @@
 //!
 //! Ten functions over lent buffers: the array, the map, the hold and the 2,366 bytes of a state. Each answers 0 for done, 255 for more,
 //! else the number of a refusal, which leaves every buffer as it was. Any bytes of any length may be lent. Format and recover take any 2,366
-//! bytes for the state; to the others, bytes that encode none are a bad frame.
+//! bytes for the state; to the others, bytes that encode none are a bad frame. Two more tell how torn pages are.
 
 mod change;
 mod checkpoint;
@@ -16,6 +16,7 @@ mod state;
 
 mod zones;
 
+pub use page::Class;
 use state::State;
 
 /// The bytes of a page and of its data.
@@ -137,4 +138,17 @@ pub fn checkpoint(array: &mut [u8], map: &[u16], hold: &[u8], state: &mut [u8]) 
 /// One stride of a reclaim.
 pub fn reclaim(array: &mut [u8], map: &mut [u16], hold: &[u8], state: &mut [u8]) -> u8 {
     number(State::edit(state).and_then(|s| reclaim::reclaim(array, map, hold, s)))
+}
+
+/// The class of a page; none where it is not 528 bytes.
+pub fn class(page: &[u8]) -> Option<Class> {
+    page.try_into().ok().map(page::class)
+}
+
+/// How many pages in scan order are torn; none where state and array do not fit each other.
+pub fn torn(array: &[u8], state: &[u8]) -> Option<usize> {
+    let state = State::view(state).ok()?;
+    let (g, zones) = (state.geometry(), state.zones()?);
+    let fit = g.in_range() && array.len() == g.array_len() && zones.in_range(g.blocks);
+    fit.then(|| zones.scan(flash::pages(array), g).filter(|(_, p)| matches!(page::class(p), Class::Torn(_))).count())
 }

@@ -6,6 +6,14 @@ pub type Page = [u8; PAGE];
 /// A page of nothing but zero bits has this many before Zeros.
 const MOST_ZEROS: u32 = 526 * 8;
 
+/// What a page is; of a torn one, Zeros minus the zero bits counted.
+#[derive(Clone, Copy, PartialEq, Eq, Debug)]
+pub enum Class {
+    Erased,
+    Whole,
+    Torn(i32),
+}
+
 /// The spare area up to Zeros, which follows from what stands before it.
 #[derive(Clone, Copy, PartialEq, Eq)]
 pub struct Spare {
@@ -49,9 +57,22 @@ fn zeros(page: &Page) -> u32 {
     spare + data.iter().map(|w| u64::from_le_bytes(*w).count_zeros()).sum::<u32>()
 }
 
+/// Zeros, as it stands on the page.
+fn said(page: &Page) -> u32 {
+    u16::from_le_bytes([page[526], page[527]]).into()
+}
+
+pub fn class(page: &Page) -> Class {
+    match said(page) as i32 - zeros(page) as i32 {
+        _ if is_erased(page) => Class::Erased,
+        0 => Class::Whole,
+        by => Class::Torn(by),
+    }
+}
+
 /// Whether Zeros agrees. On an erased page and on many a torn one Zeros is higher than any count, so that no bits need be counted.
 pub fn is_whole(page: &Page) -> bool {
-    let said = u16::from_le_bytes([page[526], page[527]]) as u32;
+    let said = said(page);
     said <= MOST_ZEROS && zeros(page) == said
 }
 

@@ -1,5 +1,6 @@
 //! The two layers behind one interface; the benchmarks use it too.
-use bokuhira::{Call, Store, DATA};
+use super::array::scan_order;
+use bokuhira::{Call, Class, State, Store, DATA};
 
 /// The layer that a call goes to: the proved library, or the plain one written apart from it.
 #[derive(Clone, Copy, PartialEq, Eq, Debug)]
@@ -28,6 +29,30 @@ impl Layer {
                 (0, at) => Ok(&store.array[at..at + DATA]),
                 (n, _) => Err(n),
             },
+        }
+    }
+
+    /// The class of a page; none where it is of another length.
+    pub fn class(self, page: &[u8]) -> Option<Class> {
+        match self {
+            Layer::Proved => Class::of(page),
+            Layer::Plain => plain::class(page).map(|class| match class {
+                plain::Class::Erased => Class::Erased,
+                plain::Class::Whole => Class::Whole,
+                plain::Class::Torn(by) => Class::Torn(by),
+            }),
+        }
+    }
+
+    /// How many pages in scan order are torn, by the zone lists of the state.
+    pub fn torn(self, store: &Store) -> Option<usize> {
+        match self {
+            Layer::Proved => {
+                let state = State::decode(&store.state)?;
+                let torn = |k: &usize| matches!(store.class(*k), Some(Class::Torn(_)));
+                Some(scan_order(state.geometry, &state.zones).iter().filter(|k| torn(k)).count())
+            }
+            Layer::Plain => plain::torn(&store.array, &store.state),
         }
     }
 }

@@ -1,4 +1,4 @@
--- `outcome::state_lines` meets its contract: the six lines put one behind the other. Assumes nothing.
+-- `outcome::state_lines` meets its contract: the lines put one behind the other. Assumes nothing.
 use native.Mathlib.Omega.{arith}
 use Rattle.outcome.specs.Text.{stateText}
 use Rattle.lines.proofs.Putting.{puts, put-within}
@@ -27,14 +27,8 @@ number-line-requires-2 c κs = search needs
 zone-lines-requires : tie.Need-zone-lines-requires
 zone-lines-requires c κs = search needs
 
-mapped-requires : tie.Need-mapped-requires
-mapped-requires c κs = search needs
-
-slice-aggregate-number-line-3 : tie.Need-slice-aggregate-number-line-3
-slice-aggregate-number-line-3 c = search needs
-
-number-line-requires-3 : tie.Need-number-line-requires-3
-number-line-requires-3 c κs = search needs
+count-lines-requires : tie.Need-count-lines-requires
+count-lines-requires c κs = search needs
 
 same-length : tie.Need-same-length
 same-length c = search needs
@@ -42,7 +36,10 @@ same-length c = search needs
 returns : tie.Need-returns
 unfolding stateText
 returns c =
-    rw (← c .before .before .before .before .before .mapped .ensures) (put-within (puts (puts (puts (c .before .before .before .before .before .before .before .before .before .before .before .before .before .before .before .before .before .before .before .number-line .ensures) (c .before .before .before .before .before .before .before .before .before .before .before .before .before .number-line2 .ensures)) (c .before .before .before .before .before .before .before .before .zone-lines .ensures)) (c .before .before .number-line3 .ensures)) (omega arith))
+    let d = c .before .before in
+    let z = d .before .before .before .before in
+    let v = z .before .before .before .before .before in
+    put-within (puts (puts (puts (v .before .before .before .before .before .before .number-line .ensures) (v .number-line2 .ensures)) (z .zone-lines .ensures)) (d .count-lines .ensures)) (omega arith)
 
 pub state-lines-spec : {M : Type 1} → statement M
 state-lines-spec =
@@ -55,8 +52,6 @@ state-lines-spec =
     cast-number-line-2
     number-line-requires-2
     zone-lines-requires
-    mapped-requires
-    slice-aggregate-number-line-3
-    number-line-requires-3
+    count-lines-requires
     same-length
     returns)
