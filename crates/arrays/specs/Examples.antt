@@ -1,5 +1,5 @@
 -- The hypotheses can be met: a block of two pages, a page programmed on it, programs and erases cut; and an instance of each record.
-use mathlib.Core.Path.{_≡_, refl}
+use mathlib.Core.Path.{_≡_, refl, sym, ap, _∙_}
 use mathlib.Core.Bool.{true, false}
 use mathlib.Core.List.{List, [], _∷_}
 use mathlib.Core.Logic.{inl}
@@ -7,6 +7,7 @@ use Prim.Native.Nat.{ℕ, zero, suc, _<_}
 use native.Mathlib.Omega.{arith}
 use lib.ListN.{replicate, length-replicate}
 use lib.IntN.{pos}
+use lib.Signed.{_<ℤ_}
 use lib.Count.{ones, onesIn}
 use Rattle.model.specs.Lists.{part, splice, same}
 use Rattle.model.specs.Bytes.{allFF, ands, ors, minus, zerosOf, zeroBits}
@@ -17,11 +18,12 @@ use Rattle.model.specs.Zones.{usedIn, cleanIn}
 use Rattle.model.specs.declared.Geometry.{Geometry}
 use Rattle.model.specs.declared.Spare.{Spare}
 use Rattle.model.specs.declared.Class.the-variants.{Erased, Whole, Torn}
-use Rattle.arrays.specs.Bytelist.{Bytes, bytes-replicate}
+use Rattle.arrays.specs.Bytelist.{Bytes, bytes-replicate, ands-under}
 use Rattle.arrays.specs.Pages.{Where, inside, away}
 use Rattle.arrays.specs.Ranges.{InGeometry, geometry-in, InLengths}
 use Rattle.arrays.specs.Image.{SpareFits}
 use Rattle.arrays.specs.Arrays.{ProgramOk, Leans, image-ok, blank-leans, leans-apply, cut-struck, cut-same}
+use Rattle.arrays.specs.Torn.{later-less}
 use Rattle.arrays.specs.Scan.{Next, next-is}
 
 -- ---- a device as small as document 01 (docs/PAPERS.md) admits
@@ -98,6 +100,24 @@ done-leans = leans-apply 2 (program 0 image) fresh ok fresh-leans
 one-left : classOf (pageAt (cutOp 2 (program 0 image) (84 ∷ []) fresh) 0) ≡ Torn (pos 1)
 unfolding image spare cutOp turn turnedBits dueBits putPage splice minus ands classOf tornBy allFF zeroBits ones onesIn pageBytes sealed pageAt part
 one-left = refl
+
+-- with that bit turned too it is whole, and torn by less
+none-left : classOf (pageAt (cutOp 2 (program 0 image) [] fresh) 0) ≡ Whole
+unfolding image spare cutOp turn turnedBits dueBits putPage splice minus ands classOf allFF zeroBits ones onesIn pageBytes sealed pageAt part
+none-left = refl
+
+every-bit : turnedBits 2 (program 0 image) [] fresh ≡ dueBits 2 (program 0 image) fresh
+unfolding image spare turnedBits dueBits minus ands zeroBits ones onesIn pageBytes sealed pageAt part
+every-bit = refl
+
+one-left-more : tornBy (pageAt (cutOp 2 (program 0 image) [] fresh) 0) <ℤ tornBy (pageAt (cutOp 2 (program 0 image) (84 ∷ []) fresh) 0)
+one-left-more =
+    later-less 2 fresh 0 image (ok .fits) fresh-bytes (84 ∷ []) []
+    (rw every-bit (unfold turnedBits in ands-under (dueBits 2 (program 0 image) fresh) (84 ∷ [])))
+    (λ e. differ (sym one-left ∙ ap classOf e ∙ none-left))
+  where
+    differ : Torn (pos 1) ≡ Whole → ⊥
+    differ e = let z : _≡_ {A = ℕ} 0 1 = cc in absurd (omega arith)
 
 one-left-told : everyTurned (dueBits 2 (program 0 image) fresh) (turnedBits 2 (program 0 image) (84 ∷ []) fresh) ≡ false
 unfolding image spare everyTurned same turnedBits dueBits minus ands zeroBits ones onesIn pageBytes sealed pageAt part

@@ -26,7 +26,7 @@ use Rattle.starting.proofs.Starts.{standing}
 use Rattle.reporting.specs.Report.{Scannable}
 
 -- the checkpoint on page k on is complete and passes refusal 3, and the state is made from it
-record Found-at (g : Geometry) (w : World) (s : State) : Type 0 where
+record FoundAt (g : Geometry) (w : World) (s : State) : Type 0 where
   page : ℕ
   stands : Standing g (w .array) (w .map) page
   loads : loadOk g (entriesAt g (w .array) page) (zonesAt g (w .array) page) ≡ true
@@ -35,7 +35,7 @@ record Found-at (g : Geometry) (w : World) (s : State) : Type 0 where
 module _ (g : Geometry) (w : World) where
   -- a plan that answers 0 was made so
   abbrev Made : Plan → Type 0
-  Made p = p .answer ≡ 0 → Found-at g w (p .state)
+  Made p = p .answer ≡ 0 → FoundAt g w (p .state)
 
   made-from : lentOk g w ≡ true → (f : Found) → newest (w .array) (mapPages g) (g .pages) ≡ f → Made (recoverFrom g w f)
   unfolding recoverFrom recoverPlan lentOk
@@ -61,12 +61,12 @@ module _ (g : Geometry) (w : World) where
       go true l = made-from l (newest (w .array) (mapPages g) (g .pages)) refl
       go false l = λ z. absurd (omega arith)
 
-  done-found : exec (recover g) w .answer ≡ 0 → Found-at g w (exec (recover g) w .world .state)
+  done-found : exec (recover g) w .answer ≡ 0 → FoundAt g w (exec (recover g) w .world .state)
   unfolding exec carried plan
   done-found = made-plan
 
 -- so the blocks in scan order can be looked through
-found-scannable : (g : Geometry) (w : World) (s : State) (f : Found-at g w s) → Scannable (w .array) (recoveredState g (w .array) (f .page))
+found-scannable : (g : Geometry) (w : World) (s : State) (f : FoundAt g w s) → Scannable (w .array) (recoveredState g (w .array) (f .page))
 unfolding recoveredState
 found-scannable g w s f =
     let xs = w .array in

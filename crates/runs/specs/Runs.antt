@@ -5,8 +5,10 @@ use mathlib.Core.Path.{_≡_, refl, ap, _∙_}
 use mathlib.Core.Bool.{Bool, true, false, _||_}
 use mathlib.Core.List.{List, [], _∷_, _++_}
 use lib.ListN.{length, take, drop, set, replicate}
+use lib.IntN.{pos}
 use Rattle.model.specs.Lists.{find, padTo, splice}
 use Rattle.model.specs.Bytes.{bytes, ands, minus, zerosOf}
+use Rattle.model.specs.Page.{classOf, pageAt}
 use Rattle.model.specs.Geometry.{geometryOk, blankMap}
 use Rattle.model.specs.Zones.{zonesOf, onPages, hasId, active}
 use Rattle.model.specs.Checkpoint.{nothing, at, mapPage, zonePage, zoneData}
@@ -23,11 +25,12 @@ use Rattle.model.specs.declared.Geometry.{Geometry}
 use Rattle.model.specs.declared.Place.{Place}
 use Rattle.model.specs.declared.State.{State}
 use Rattle.model.specs.declared.Zones.{Zones}
+use Rattle.model.specs.declared.Class.the-variants.{Torn}
 use Rattle.model.specs.declared.Work.the-variants.{Idle, Format, Checkpoint, Reclaim}
 use Rattle.examples.specs.Unfolded.{go, told}
 use Rattle.examples.specs.Rules.{small}
 use Rattle.examples.specs.Orders.{begin-6 as begin-6-law, begin-7 as begin-7-law, begin-9 as begin-9-law, begin-17, write-5, write-8, write-11, read-14, read-0, reclaim-strides, reclaim-none, recover-1, format-1}
-use Rattle.runs.specs.Paged.{flat, Sized, sized-take, sized-append, sized-replicate, usedOn, cleanOn, nextOn, entryOn, wholeOn, scanOn, isOn, mapsOn, completeOn, newerOn, newestOn, fullOn, slideOn}
+use Rattle.runs.specs.Paged.{flat, Sized, page-flat, sized-take, sized-append, sized-replicate, usedOn, cleanOn, nextOn, entryOn, wholeOn, scanOn, isOn, mapsOn, completeOn, newerOn, newestOn, fullOn, slideOn}
 use Rattle.runs.specs.Devices.{Device, world, device, lentOn, frameOn, workOn, format-erases, format-maps, format-ends, format-ready, format-first, format-more, format-finished, refused-stays, passes, busy, reads-part, lent-on, live-on, begins, begin-op, lone-op, lone-writes, first-write, next-write, commit-op, commits, aborts, checkpoint-begins, checkpoint-ends, reclaim-copies, reclaim-erases, reclaim-op, reclaim-shape, loadOn, recovers, idle-told, idle-left, page-told, page-left, block-told, block-left, answered, cut-short, recovered, turned-down, joined}
 
 -- ---- pages
@@ -380,6 +383,11 @@ commit-5-told = page-told w3 (commit 5) butOne 17 mark5 blank (commit-op w3 refl
 commit-5-left : cutArray (commit 5) (world w3) butOne ≡ flat (w4 .pages)
 unfolding paged mark5 p16 p17
 commit-5-left = page-left w3 (commit 5) butOne 17 mark5 blank (commit-op w3 refl refl refl 5 refl 17 refl refl refl refl) refl p17 refl
+
+-- so the mark is torn by 1, the least that `OwnTorn` of `model` leaves for a torn page of a sequence
+commit-5-torn : classOf (pageAt (cutArray (commit 5) (world w3) butOne) 17) ≡ Torn (pos 1)
+unfolding paged mark5 p16 p17
+commit-5-torn = ap (λ (xs : List ℕ). classOf (pageAt xs 17)) commit-5-left ∙ ap classOf (page-flat (w4 .pages) (w4 .sized) 17)
 
 recover-4 : exec (recover small) (world (handed w4)) ≡ record { answer = 0; world = world w4 }
 unfolding paged map1 zone1 p16 p17

@@ -13,7 +13,7 @@ mod setup;
 mod stack;
 mod table;
 
-use bokuhira::{Answer, Call, Geometry, State, Store, HOLD, STATE};
+use bokuhira::{Answer, Call, Class, Geometry, State, Store, HOLD, STATE};
 use layer::{Layer, LAYERS};
 use session::COMMANDS;
 use setup::{name, GEOMETRIES};
@@ -185,10 +185,18 @@ fn stack(table: &mut Table) {
                 break;
             }
         }
-        println!("| {what} | {deepest} |");
-        let limit = if what == "recover" { 56 } else { 24 } * 1024;
-        table.hold(deepest < limit, &format!("{what} uses {deepest} bytes of stack, limit {limit}"));
+        print_stack(table, what, deepest);
     }
+    let mut class = None;
+    let deepest = stack::used(&mut || class = full.class(0));
+    assert_eq!(class, Some(Class::Whole));
+    print_stack(table, "class of a page", deepest);
+}
+
+fn print_stack(table: &mut Table, what: &str, deepest: usize) {
+    println!("| {what} | {deepest} |");
+    let limit = if what == "recover" { 56 } else { 24 } * 1024;
+    table.hold(deepest < limit, &format!("{what} uses {deepest} bytes of stack, limit {limit}"));
 }
 
 fn main() {
