@@ -6,7 +6,7 @@ use lib.ListN.{length, getD}
 use lib.Dec.{eqb}
 use lib.IntN.{ℤ}
 use Rattle.model.specs.Answers.{refused}
-use Rattle.model.specs.Page.{classOf}
+use Rattle.model.specs.Page.{classOf, classNumber}
 use Rattle.model.specs.Geometry.{unmapped}
 use Rattle.model.specs.World.{World}
 use Rattle.model.specs.Frame.{freshState}
@@ -84,11 +84,15 @@ pub record Classed : Type 0 where
   pub class : ℕ
   pub difference : ℤ
 
--- a class as the caller has it: "with torn, the difference", with another what stood there
+-- the difference "with torn", with another class what stood there
+abbrev pub differenceOr : ℤ → Class → ℤ
+differenceOr z Erased = z
+differenceOr z Whole = z
+differenceOr z (Torn d) = d
+
+-- a class as the caller has it
 abbrev pub classedOf : ℤ → Class → Classed
-classedOf z Erased = record { class = 0; difference = z }
-classedOf z Whole = record { class = 1; difference = z }
-classedOf z (Torn d) = record { class = 2; difference = d }
+classedOf z c = record { class = classNumber c; difference = differenceOr z c }
 
 -- that of a page; 3 for a part of another length
 unfoldable pub classCalled : List ℕ → ℤ → Classed

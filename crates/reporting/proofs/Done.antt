@@ -23,7 +23,7 @@ use Rattle.blocks.proofs.Kept.{kept-list}
 use Rattle.recover.specs.Recovering.{Standing, Loaded}
 use Rattle.recover.proofs.Lists.{counted, scannable}
 use Rattle.starting.proofs.Starts.{standing}
-use Rattle.reporting.specs.Report.{Scannable}
+use Rattle.reporting.specs.Report.{ScanFits}
 
 -- the checkpoint on page k on is complete and passes refusal 3, and the state is made from it
 record FoundAt (g : Geometry) (w : World) (s : State) : Type 0 where
@@ -66,9 +66,9 @@ module _ (g : Geometry) (w : World) where
   done-found = made-plan
 
 -- so the blocks in scan order can be looked through
-found-scannable : (g : Geometry) (w : World) (s : State) (f : FoundAt g w s) → Scannable (w .array) (recoveredState g (w .array) (f .page))
+found-fits : (g : Geometry) (w : World) (s : State) (f : FoundAt g w s) → ScanFits (w .array) (recoveredState g (w .array) (f .page))
 unfolding recoveredState
-found-scannable g w s f =
+found-fits g w s f =
     let xs = w .array in
     let z = zonesIn (zonesAt g xs (f .page)) in
     let d : Loaded g xs (f .page) (zonesAt g xs (f .page)) (entriesAt g xs (f .page)) = record { zones = refl; used = refl; ok = f .loads } in
@@ -79,5 +79,5 @@ found-scannable g w s f =
       short = geometry-in g (f .stands .shape) .pages-most;
     }
 
-pub done-scannable : (g : Geometry) (w : World) → exec (recover g) w .answer ≡ 0 → Scannable (w .array) (exec (recover g) w .world .state)
-done-scannable g w e = let f = done-found g w e in subst (Scannable (w .array)) (sym (f .made)) (found-scannable g w _ f)
+pub done-fits : (g : Geometry) (w : World) → exec (recover g) w .answer ≡ 0 → ScanFits (w .array) (exec (recover g) w .world .state)
+done-fits g w e = let f = done-found g w e in subst (ScanFits (w .array)) (sym (f .made)) (found-fits g w _ f)

@@ -21,11 +21,11 @@ use Rattle.arrays.specs.Ranges.{geometry-in}
 use Rattle.lines.specs.Input.{says, illFormed, lineOf}
 use Rattle.lines.specs.Names.{blocksName, pagesName, logicalName, answerName}
 use Rattle.lines.specs.Text.{numberLine, Put}
-use Rattle.reporting.specs.Report.{tornPages, outcomeText, emptyHold, lent, arrayReport, reportOf, Scannable}
+use Rattle.reporting.specs.Report.{tornPages, outcomeText, emptyHold, lent, arrayReport, reportOf, ScanFits}
 use Rattle.lines.proofs.Putting.{put-within, put-is}
 use Rattle.outcome.specs.Text.{answerText}
 use Rattle.outcome.proofs.Answers.{refused-text}
-use Rattle.reporting.proofs.Done.{done-scannable}
+use Rattle.reporting.proofs.Done.{done-fits}
 
 -- ---- a recovery: the answer k, and what it leaves
 module _ (g : Geometry) (xs map map2 hold hold2 : List ℕ) (s t : State) (n k : ℕ)
@@ -45,8 +45,8 @@ module _ (g : Geometry) (xs map map2 hold hold2 : List ℕ) (s t : State) (n k :
 
   -- done: the blocks of the state's zones lie in the array, and what is counted on them is told
   module _ (done : k ≡ 0) where
-    pub told-scannable : Scannable xs t
-    told-scannable = subst (Scannable xs) (ap (λ (o : Outcome). o .world .state) (sym e)) (done-scannable g _ (ap (λ (o : Outcome). o .answer) (sym e) ∙ sym told ∙ done))
+    pub told-fits : ScanFits xs t
+    told-fits = subst (ScanFits xs) (ap (λ (o : Outcome). o .world .state) (sym e)) (done-fits g _ (ap (λ (o : Outcome). o .answer) (sym e) ∙ sym told ∙ done))
 
     pub recovery-told : (torn : ℕ) → torn ≡ tornOf xs (t .geometry .pages) (t .zones)
         → {a b : List ℕ} {m r : ℕ} → Put a 0 (answerText 0 t map2 torn) m b r → Put a 0 (outcomeText (exec (recover g) (lent g xs map))) m b r

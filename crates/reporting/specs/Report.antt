@@ -53,7 +53,7 @@ reportOf input =
 
 -- ---- what the count may rely on
 -- the blocks in scan order lie in the array, and the counts of the lists fit
-pub record Scannable (xs : List ℕ) (s : State) : Type 0 where
+pub record ScanFits (xs : List ℕ) (s : State) : Type 0 where
   pub counts : Counted (s .zones)
   pub blocks : Within (length xs) (s .geometry .pages) (unavailableOf (s .zones) ++ availableOf (s .zones))
   pub short : s .geometry .pages ≤ 64

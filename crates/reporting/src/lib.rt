@@ -7,7 +7,7 @@ ghost use Rattle.io.specs.Counts.{Counts};
 ghost use Rattle.model.specs.Zones.{tornOf};
 ghost use Rattle.model.specs.Commands.{exec, recover};
 ghost use Rattle.lines.specs.Text.{Put};
-ghost use Rattle.reporting.specs.Report.{Scannable, outcomeText, lent, arrayReport, reportOf};
+ghost use Rattle.reporting.specs.Report.{ScanFits, outcomeText, lent, arrayReport, reportOf};
 use device::Device;
 use lines::Parsed;
 use model::Geometry;
@@ -16,7 +16,7 @@ use model::State;
 
 /// The torn pages in scan order.
 fn torn_pages(array: &[u8], s: State) -> usize
-    requires { ⌜ Scannable (now array) s ⌝ }
+    requires { ⌜ ScanFits (now array) s ⌝ }
     ensures { λ r. ⌜ r ≡ tornOf (now (array .entry)) (s .geometry .pages) (s .zones) ⌝ }
 {
     let z = s.zones;

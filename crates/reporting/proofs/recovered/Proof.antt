@@ -2,7 +2,7 @@
 use mathlib.Core.Path.{refl}
 use native.Mathlib.Omega.{arith}
 use Rattle.reporting.specs.Report.{emptyHold}
-use Rattle.reporting.proofs.Reports.{refusal-told, told-scannable, recovery-told}
+use Rattle.reporting.proofs.Reports.{refusal-told, told-fits, recovery-told}
 use borrow.Author.Needs.{needs}
 use Rattle.reporting.proofs.recovered.Statement.{statement}
 use Rattle.reporting.proofs.recovered.Tie as tie
@@ -45,7 +45,7 @@ torn-pages-requires : tie.Need-torn-pages-requires
 unfolding emptyHold
 torn-pages-requires c κs =
     let d = c .before .before .before .before .before .before in
-    told-scannable _ _ _ _ _ _ _ _ _ _ (d .recover .ensures) refl (d .before .before .before .fresh .ensures) (c .before .number .ensures) (c .if1 .left)
+    told-fits _ _ _ _ _ _ _ _ _ _ (d .recover .ensures) refl (d .before .before .before .fresh .ensures) (c .before .number .ensures) (c .if1 .left)
 
 done-lines-requires : tie.Need-done-lines-requires
 done-lines-requires c κs = search needs
