@@ -1,18 +1,19 @@
--- Refusal 4: what it passes it passes in part, and with one more entry at the end that is a page of an open change, a mark that closes one with
--- a new version, or a lone page.
-use mathlib.Core.Path.{_≡_, refl}
+-- Refusal 4: what it passes it passes in part, and with one more entry, wherever it stands, that is a page of an open change, a mark that closes one
+-- with a new version, or a lone page.
+use mathlib.Core.Path.{_≡_, refl, sym, subst, _∙_}
 use mathlib.Core.Logic.{inl, inr, _≢_}
 use mathlib.Core.Bool.{Bool, true, false, not, cond, _&&_, _||_}
 use Prim.Native.Nat.{ℕ, _≤_, _<_}
 use native.Mathlib.Omega.{arith}
-use mathlib.Core.List.{List, [], _∷_, _++_}
+use mathlib.Core.List.{List, [], _∷_, _++_, append-nil, append-assoc}
 use lib.Dec.{eqb, ltb}
 use borrow.Author.Tests.{eq-eqb, ne-eqb, lt-ltb}
 use Rattle.model.specs.Lists.{all, allHeads}
 use Rattle.model.specs.Zones.{Entry}
 use Rattle.model.specs.Recovery.{isMark, markNew, entryGood, pagesGood, top}
-use Rattle.arrays.specs.Tests.{Is, eqb-cases, and-weaker, or-weaker, heads-append}
-use Rattle.scanlog.specs.Sublist.{Sublist, nil, skip, both, all-sub, heads-sub}
+use Rattle.arrays.specs.Tests.{Is, eqb-cases, clash, and-weaker, or-weaker, or-left, heads-cons, heads-head, heads-tail}
+use Rattle.scanlog.specs.Sublist.{Sublist, nil, skip, both, all-sub, heads-sub, sub-refl, sub-nil, sub-append}
+use Rattle.scanlog.specs.Insert.{Insert, here, there, insert-last, insert-append, all-insert}
 use Rattle.scanlog.specs.Log.{NoMark}
 
 -- ---- a sublist
@@ -45,9 +46,64 @@ top-sub (skip y s) = omega (arith, top-sub s)
 top-sub (both y s) = omega (arith, top-sub s)
 
 -- ---- one more entry
-pub pagesGood-one : (logical : ℕ) (es : List Entry) (e : Entry) → pagesGood logical es ≡ true → entryGood logical es e ≡ true → pagesGood logical (es ++ (e ∷ [])) ≡ true
-unfolding pagesGood allHeads
-pagesGood-one logical es e h k = heads-append (entryGood logical) [] es (e ∷ []) h (rw k)
+-- y passes with e before it where it passed without: it is no mark, or e has neither its version nor, with a mark, its identifier
+abbrev Clear : Entry → Entry → Type 0
+Clear e y = y .cnt ≢ 0 → y .ver ≢ 0 → (e .ver ≢ y .ver) × (y .id ≢ 0 → e .cnt ≢ 0 → e .id ≢ y .id)
+
+abbrev Clears : Entry → List Entry → Type 0
+Clears e [] = Unit {0}
+Clears e (y ∷ ys) = Clear e y × Clears e ys
+
+mark-after : (e y : Entry) {us vs : List Entry} → Insert e us vs → (e .ver ≢ y .ver) × (y .id ≢ 0 → e .cnt ≢ 0 → e .id ≢ y .id) → markNew us y ≡ true → markNew vs y ≡ true
+unfolding markNew
+mark-after e y {us} {vs} s c h =
+    and-weaker (all (λ (x : Entry). not (eqb (x .ver) (y .ver))) us) (all-insert e (λ (x : Entry). not (eqb (x .ver) (y .ver))) s (rw (ne-eqb (e .ver) (y .ver) (c .0)))) (owner (eqb-cases (y .id) 0)) h
+  where
+    other : (y .id ≡ 0 → ⊥) → Is (e .cnt) 0 → Is (e .id) (y .id) → not (isMark e && eqb (e .id) (y .id)) ≡ true
+    other n (inl z) q = rw (z .1)
+    other n (inr z) (inl q) = absurd (c .1 n (z .0) (q .0))
+    other n (inr z) (inr q) = rw (z .1, q .1)
+
+    owner : Is (y .id) 0 → (eqb (y .id) 0 || all (λ (x : Entry). not (isMark x && eqb (x .id) (y .id))) us) ≡ true
+        → (eqb (y .id) 0 || all (λ (x : Entry). not (isMark x && eqb (x .id) (y .id))) vs) ≡ true
+    owner (inl z) k = or-left (eqb (y .id) 0) _ (z .1)
+    owner (inr z) k = or-weaker (eqb (y .id) 0) (λ q. q) (all-insert e (λ (x : Entry). not (isMark x && eqb (x .id) (y .id))) s (other (z .0) (eqb-cases (e .cnt) 0) (eqb-cases (e .id) (y .id)))) k
+
+good-after : (logical : ℕ) (e y : Entry) {us vs : List Entry} → Insert e us vs → Clear e y → entryGood logical us y ≡ true → entryGood logical vs y ≡ true
+unfolding entryGood
+good-after logical e y {us} {vs} s c =
+    then (eqb (y .kind) 0) (then (eqb (y .reserved) 0) (then (ltb (y .lpn) logical) (then (not (eqb (y .id) 4294967295)) (then (not (eqb (y .ver) 4294967295))
+    (then (not (eqb (y .id) 0) || eqb (y .cnt) 1) (mark (eqb-cases (y .cnt) 0) (eqb-cases (y .ver) 0)))))))
+  where
+    then : (a : Bool) {b c : Bool} → (b ≡ true → c ≡ true) → (a && b) ≡ true → (a && c) ≡ true
+    then a = and-weaker a (λ k. k)
+
+    mark : Is (y .cnt) 0 → Is (y .ver) 0 → cond (isMark y) (not (eqb (y .ver) 0) && markNew us y) (eqb (y .ver) 0) ≡ true → cond (isMark y) (not (eqb (y .ver) 0) && markNew vs y) (eqb (y .ver) 0) ≡ true
+    mark (inl z) q k = rw (z .1) (rw (z .1) at k)
+    mark (inr z) (inl q) k = let f : false ≡ true = rw (z .1, q .1) at k in clash f refl
+    mark (inr z) (inr q) k = let r : markNew us y ≡ true = rw (z .1, q .1) at k in rw (z .1, q .1) (mark-after e y s (c (z .0) (q .0)) r)
+
+-- the entries after e pass with it before them
+heads-after : (logical : ℕ) (e : Entry) (ys : List Entry) {us vs : List Entry} → Insert e us vs → Clears e ys → allHeads (entryGood logical) us ys ≡ true → allHeads (entryGood logical) vs ys ≡ true
+unfolding allHeads
+heads-after logical e [] s c h = refl
+heads-after logical e (y ∷ ys) {us} {vs} s c h =
+    and-weaker (entryGood logical us y) (good-after logical e y s (c .0)) (heads-after logical e ys (insert-append e (y ∷ []) s) (c .1)) h
+
+heads-in : (logical : ℕ) (e : Entry) {ys zs : List Entry} → Insert e ys zs → (us : List Entry) → Clears e ys → entryGood logical (us ++ ys) e ≡ true
+    → allHeads (entryGood logical) us ys ≡ true → allHeads (entryGood logical) us zs ≡ true
+heads-in logical e (here ys) us c g h =
+    heads-cons (entryGood logical) us e ys (good-sub logical us (us ++ ys) e (sub-left us ys) g) (heads-after logical e ys (insert-last e us) c h)
+  where
+    sub-left : (us ys : List Entry) → Sublist us (us ++ ys)
+    sub-left us ys = subst (λ (l : List Entry). Sublist l (us ++ ys)) (append-nil us) (sub-append (sub-refl us) (sub-nil ys))
+heads-in logical e (there {xs = ys} {ys = zs} y s) us c g h =
+    heads-cons (entryGood logical) us y zs (heads-head (entryGood logical) us y ys h)
+    (heads-in logical e s (us ++ (y ∷ [])) (c .1) (rw (append-assoc us (y ∷ []) ys) g) (heads-tail (entryGood logical) us y ys h))
+
+pub pagesGood-insert : (logical : ℕ) {es fs : List Entry} (e : Entry) → Insert e es fs → Clears e es → pagesGood logical es ≡ true → entryGood logical es e ≡ true → pagesGood logical fs ≡ true
+unfolding pagesGood
+pagesGood-insert logical e s c h k = heads-in logical e s [] c k h
 
 -- what every entry of a layer has
 pub record Plain (logical : ℕ) (e : Entry) : Type 0 where
@@ -79,6 +135,19 @@ new-mark i (x ∷ es) n = go (eqb-cases (x .id) i) (new-mark i es (n .1))
         neither : (b : Bool) → (not (b && false) && true) ≡ true
         neither true = refl
         neither false = refl
+
+-- ---- the entries that were there are clear of it
+-- a page that is no mark
+pub page-clears : (e : Entry) (es : List Entry) → e .cnt ≡ 0 → e .ver ≡ 0 → Clears e es
+page-clears e [] c v = tt
+page-clears e (y ∷ ys) c v = ((λ z n. ((λ q. n (sym q ∙ v)), (λ i m. absurd (m c)))), page-clears e ys c v)
+
+-- one of a new version, a mark of an identifier that has none or a lone page
+pub mark-clears : (e : Entry) (es : List Entry) → (e .id ≢ 0 → NoMark (e .id) es) → top es < e .ver → Clears e es
+unfolding top
+mark-clears e [] n v = tt
+mark-clears e (y ∷ ys) n v =
+    ((λ z k. ((λ q. absurd (omega arith)), (λ i m q. z (n (λ r. i (sym q ∙ r)) .0 (sym q))))), mark-clears e ys (λ r. n r .1) (omega arith))
 
 module _ (logical : ℕ) (es : List Entry) (e : Entry) (plain : Plain logical e) where
   -- a page of a transaction that is not marked yet

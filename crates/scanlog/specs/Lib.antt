@@ -1,4 +1,5 @@
 pub mod Sublist
+pub mod Insert
 pub mod Occ
 pub mod Rising
 pub mod Log

@@ -1,5 +1,5 @@
--- The log: what recovery makes of one more entry at the end of a scan. A page of an unmarked identifier changes nothing; a mark of the next
--- version applies its transaction on top; a lone page sets its entry.
+-- The log: what recovery makes of one more entry, wherever it stands in the scan. A page of an unmarked identifier changes nothing; a mark of the
+-- next version applies its transaction on top; a lone page sets its entry.
 use mathlib.Core.Path.{_≡_, refl, sym, ap, _∙_}
 use mathlib.Core.Logic.{_⊎_, inl, inr, _≢_}
 use mathlib.Core.Bool.{_&&_, and-false}
@@ -7,7 +7,7 @@ use Prim.Native.Nat.{ℕ, zero, suc, _+_, _-_, _≤_, _<_, max}
 use native.Mathlib.Omega.{arith}
 use native.Mathlib.Nat.{add-zero, add-suc}
 use mathlib.Core.List.{List, [], _∷_, _++_, append-nil, append-assoc}
-use lib.ListN.{length, length-append}
+use lib.ListN.{length}
 use lib.Dec.{eqb}
 use borrow.Author.Tests.{eq-eqb, ne-eqb}
 use Rattle.model.specs.Lists.{keep}
@@ -15,20 +15,25 @@ use Rattle.model.specs.Geometry.{enterPage}
 use Rattle.model.specs.Zones.{Entry}
 use Rattle.model.specs.Recovery.{ofId, pagesOf, committed, txnsIn, span, top, applied, enter, redone}
 use Rattle.arrays.specs.Tests.{Is, eqb-cases, those-append}
-use Rattle.scanlog.specs.Sublist.{those-last, those-not-last}
+use Rattle.scanlog.specs.Sublist.{those-last}
+use Rattle.scanlog.specs.Insert.{Insert, here, there, those-in, those-out}
 
 -- ---- the entries of an identifier
 pub ofId-append : (i : ℕ) (xs ys : List Entry) → ofId i (xs ++ ys) ≡ ofId i xs ++ ofId i ys
 unfolding ofId
 ofId-append i xs ys = those-append (λ (e : Entry). eqb (e .id) i) xs ys
 
-pub ofId-other : (i : ℕ) (xs : List Entry) (e : Entry) → e .id ≢ i → ofId i (xs ++ (e ∷ [])) ≡ ofId i xs
+pub ofId-other : (i : ℕ) {xs fs : List Entry} (e : Entry) → Insert e xs fs → e .id ≢ i → ofId i fs ≡ ofId i xs
 unfolding ofId
-ofId-other i xs e n = those-not-last (λ (e : Entry). eqb (e .id) i) xs e (ne-eqb (e .id) i n)
+ofId-other i e s n = those-out e (λ (e : Entry). eqb (e .id) i) s (ne-eqb (e .id) i n)
 
-pub ofId-same : (i : ℕ) (xs : List Entry) (e : Entry) → e .id ≡ i → ofId i (xs ++ (e ∷ [])) ≡ ofId i xs ++ (e ∷ [])
+pub ofId-in : (i : ℕ) {xs fs : List Entry} (e : Entry) → Insert e xs fs → e .id ≡ i → Insert e (ofId i xs) (ofId i fs)
 unfolding ofId
-ofId-same i xs e h = those-last (λ (e : Entry). eqb (e .id) i) xs e (eq-eqb (e .id) i h)
+ofId-in i e s h = those-in e (λ (e : Entry). eqb (e .id) i) s (eq-eqb (e .id) i h)
+
+pub ofId-last : (i : ℕ) (xs : List Entry) (e : Entry) → e .id ≡ i → ofId i (xs ++ (e ∷ [])) ≡ ofId i xs ++ (e ∷ [])
+unfolding ofId
+ofId-last i xs e h = those-last (λ (e : Entry). eqb (e .id) i) xs e (eq-eqb (e .id) i h)
 
 -- ---- the transactions of a version
 -- no mark of the entries but a lone one has e's identifier
@@ -57,30 +62,34 @@ unfolding committed
 commits-none xs v y (inl z) = rw (eq-eqb (y .cnt) 0 z, and-false (eqb (y .ver) v))
 commits-none xs v y (inr n) = rw (ne-eqb (y .ver) v n)
 
-txns-same : (xs : List Entry) (e : Entry) (v : ℕ) (ys : List Entry) → Apart e ys → txnsIn (xs ++ (e ∷ [])) v ys ≡ txnsIn xs v ys
-unfolding txnsIn
-txns-same xs e v [] a = refl
-txns-same xs e v (y ∷ ys) a =
-    rw (alike (xs ++ (e ∷ [])) xs v y (λ c w z. ofId-other (y .id) xs e (λ q. a .0 c z (sym q))), txns-same xs e v ys (a .1))
-
-txns-append : (xs : List Entry) (v : ℕ) (ys zs : List Entry) → txnsIn xs v (ys ++ zs) ≡ txnsIn xs v ys ++ txnsIn xs v zs
-unfolding txnsIn
-txns-append xs v [] zs = refl
-txns-append xs v (y ∷ ys) zs = rw (txns-append xs v ys zs) (sym (append-assoc (commits xs v y) (txnsIn xs v ys) (txnsIn xs v zs)))
-
--- what version v has after e is what it had, and what e itself commits
-txns-one : (xs : List Entry) (e : Entry) (v : ℕ) → Apart e xs → txnsIn (xs ++ (e ∷ [])) v (xs ++ (e ∷ [])) ≡ txnsIn xs v xs ++ commits (xs ++ (e ∷ [])) v e
-unfolding txnsIn
-txns-one xs e v a = txns-append (xs ++ (e ∷ [])) v xs (e ∷ []) ∙ rw (txns-same xs e v xs a, append-nil)
-
-txns-quiet : (xs : List Entry) (e : Entry) (v : ℕ) → Apart e xs → (e .cnt ≡ 0) ⊎ (e .ver ≢ v) → txnsIn (xs ++ (e ∷ [])) v (xs ++ (e ∷ [])) ≡ txnsIn xs v xs
-txns-quiet xs e v a q = txns-one xs e v a ∙ rw (commits-none (xs ++ (e ∷ [])) v e q) (append-nil (txnsIn xs v xs))
-
 -- above the highest version nothing is committed
 txns-above : (xs : List Entry) (v : ℕ) (ys : List Entry) → top ys < v → txnsIn xs v ys ≡ []
 unfolding txnsIn top
 txns-above xs v [] h = refl
 txns-above xs v (y ∷ ys) h = rw (commits-none xs v y (inr (omega arith)), txns-above xs v ys (omega arith))
+
+-- one more entry e
+module _ {xs fs : List Entry} (e : Entry) (s : Insert e xs fs) where
+  -- a mark of another identifier sees it no more than before
+  others : (v : ℕ) (y : Entry) → (y .cnt ≢ 0 → y .id ≢ 0 → y .id ≢ e .id) → commits fs v y ≡ commits xs v y
+  others v y a = alike fs xs v y (λ c w z. ofId-other (y .id) e s (λ q. a c z (sym q)))
+
+  txns-same : (v : ℕ) (ys : List Entry) → Apart e ys → txnsIn fs v ys ≡ txnsIn xs v ys
+  unfolding txnsIn
+  txns-same v [] a = refl
+  txns-same v (y ∷ ys) a = rw (others v y (a .0), txns-same v ys (a .1))
+
+  -- it commits nothing to version v: what version v has is what it had
+  txns-quiet : (v : ℕ) {ys zs : List Entry} → Insert e ys zs → Apart e ys → commits fs v e ≡ [] → txnsIn fs v zs ≡ txnsIn xs v ys
+  unfolding txnsIn
+  txns-quiet v (here ys) a q = rw q (txns-same v ys a)
+  txns-quiet v (there y i) a q = rw (others v y (a .0), txns-quiet v i (a .1) q)
+
+  -- nothing else has a version as high: version v is what it commits
+  txns-mark : (v : ℕ) {ys zs : List Entry} → Insert e ys zs → top ys < v → txnsIn fs v zs ≡ commits fs v e
+  unfolding txnsIn top
+  txns-mark v (here ys) h = rw (txns-above fs v ys h) (append-nil (commits fs v e))
+  txns-mark v (there y i) h = rw (commits-none fs v y (inr (omega arith)), txns-mark v i (omega arith))
 
 -- ---- spans of versions
 -- two scans that agree on the versions of a span
@@ -110,37 +119,31 @@ applied-long xs floor k h =
     ap (span xs floor) e ∙ span-add xs floor (top xs - floor) (k - (top xs - floor))
     ∙ rw (span-empty xs (floor + (top xs - floor)) (k - (top xs - floor)) (λ v a b. txns-above xs v xs (omega arith))) (append-nil (span xs floor (top xs - floor)))
 
-top-append : (xs ys : List Entry) → top (xs ++ ys) ≡ max (top xs) (top ys)
+pub top-insert : {xs fs : List Entry} (e : Entry) → Insert e xs fs → top fs ≡ max (top xs) (e .ver)
 unfolding top
-top-append [] ys = omega arith
-top-append (x ∷ xs) ys = omega (arith, top-append xs ys)
-
-pub top-one : (xs : List Entry) (e : Entry) → top (xs ++ (e ∷ [])) ≡ max (top xs) (e .ver)
-unfolding top
-top-one xs e = top-append xs (e ∷ []) ∙ omega arith
+top-insert e (here xs) = omega arith
+top-insert e (there x s) = omega (arith, top-insert e s)
 
 -- ---- what is applied
--- an entry that is no mark, of an identifier that has no mark, changes nothing
-applied-quiet : (floor : ℕ) (xs : List Entry) (e : Entry) → Apart e xs → e .cnt ≡ 0 → e .ver ≡ 0 → applied floor (xs ++ (e ∷ [])) ≡ applied floor xs
+-- an entry that commits nothing to any version up to the top
+applied-none : (floor : ℕ) {xs fs : List Entry} (e : Entry) → Insert e xs fs → Apart e xs → ((v : ℕ) → commits fs v e ≡ []) → applied floor fs ≡ applied floor xs
 unfolding applied
-applied-quiet floor xs e a z w =
-    let t : top (xs ++ (e ∷ [])) ≡ top xs = top-one xs e ∙ omega arith in
-    rw t (span-same xs (xs ++ (e ∷ [])) floor (top xs - floor) (λ v h k. txns-quiet xs e v a (inl z)))
+applied-none floor {xs} {fs} e s a q =
+    span-same xs fs floor (top fs - floor) (λ v h k. txns-quiet e s v s a (q v)) ∙ applied-long xs floor (top fs - floor) (omega (arith, top-insert e s))
 
 -- a mark of the next version adds what it commits
-applied-mark : (floor : ℕ) (xs : List Entry) (e : Entry) → Apart e xs → e .cnt ≢ 0 → e .ver ≡ suc (max floor (top xs)) → e .cnt ≡ length (pagesOf (xs ++ (e ∷ [])) e)
-    → applied floor (xs ++ (e ∷ [])) ≡ applied floor xs ++ pagesOf (xs ++ (e ∷ [])) e
+applied-mark : (floor : ℕ) {xs fs : List Entry} (e : Entry) → Insert e xs fs → Apart e xs → e .cnt ≢ 0 → e .ver ≡ suc (max floor (top xs)) → e .cnt ≡ length (pagesOf fs e)
+    → applied floor fs ≡ applied floor xs ++ pagesOf fs e
 unfolding applied span committed
-applied-mark floor xs e a m v c =
-    let xs′ = xs ++ (e ∷ []) in
+applied-mark floor {xs} {fs} e s a m v c =
     let k = max floor (top xs) - floor in
-    let t : top xs′ - floor ≡ suc k = omega (arith, top-one xs e) in
+    let t : top fs - floor ≡ suc k = omega (arith, top-insert e s) in
     let n : floor + suc k ≡ e .ver = omega arith in
-    let s : span xs′ floor k ≡ applied floor xs
-    = span-same xs xs′ floor k (λ u h j. txns-quiet xs e u a (inr (omega arith))) ∙ applied-long xs floor k (omega arith) in
-    let w : txnsIn xs′ (e .ver) xs′ ≡ pagesOf xs′ e
-    = txns-one xs e (e .ver) a ∙ rw (txns-above xs (e .ver) xs (omega arith), eq-eqb (e .ver) (e .ver) refl, ne-eqb (e .cnt) 0 m, eq-eqb (e .cnt) (length (pagesOf xs′ e)) c) in
-    rw t (rw (n, s, w))
+    let r : span fs floor k ≡ applied floor xs
+    = span-same xs fs floor k (λ u h j. txns-quiet e s u s a (commits-none fs u e (inr (omega arith)))) ∙ applied-long xs floor k (omega arith) in
+    let w : txnsIn fs (e .ver) fs ≡ pagesOf fs e
+    = txns-mark e s (e .ver) s (omega arith) ∙ rw (eq-eqb (e .ver) (e .ver) refl, ne-eqb (e .cnt) 0 m, eq-eqb (e .cnt) (length (pagesOf fs e)) c) in
+    rw t (rw (n, r, w))
 
 -- ---- the map that is redone
 pub enter-append : (m : List ℕ) (es fs : List Entry) → enter m (es ++ fs) ≡ enter (enter m es) fs
@@ -161,36 +164,35 @@ lone-apart : (e : Entry) (xs : List Entry) → e .id ≡ 0 → Apart e xs
 lone-apart e [] z = tt
 lone-apart e (y ∷ ys) z = ((λ c j q. j (q ∙ z)), lone-apart e ys z)
 
-pages-many : (xs : List Entry) (e : Entry) → e .id ≢ 0 → pagesOf (xs ++ (e ∷ [])) e ≡ ofId (e .id) xs ++ (e ∷ [])
+-- the pages of a transaction of several pages, and of a lone one
+pages-many : (xs : List Entry) (e : Entry) → e .id ≢ 0 → pagesOf xs e ≡ ofId (e .id) xs
 unfolding pagesOf
-pages-many xs e i = rw (ne-eqb (e .id) 0 i) (ofId-same (e .id) xs e refl)
+pages-many xs e i = rw (ne-eqb (e .id) 0 i)
 
 pages-lone : (xs : List Entry) (e : Entry) → e .id ≡ 0 → pagesOf xs e ≡ e ∷ []
 unfolding pagesOf
 pages-lone xs e z = rw (eq-eqb (e .id) 0 z)
 
-module _ (floor : ℕ) (m : List ℕ) (xs : List Entry) (e : Entry) where
+module _ (floor : ℕ) (m : List ℕ) {xs fs : List Entry} (e : Entry) (s : Insert e xs fs) where
   -- a page of an identifier that has no mark changes nothing
-  pub redone-page : e .cnt ≡ 0 → e .ver ≡ 0 → NoMark (e .id) xs → redone floor (xs ++ (e ∷ [])) m ≡ redone floor xs m
+  pub redone-page : e .cnt ≡ 0 → NoMark (e .id) xs → redone floor fs m ≡ redone floor xs m
   unfolding redone
-  redone-page z w n = rw (applied-quiet floor xs e (noMark-apart e xs n) z w)
+  redone-page z n = rw (applied-none floor e s (noMark-apart e xs n) (λ v. commits-none fs v e (inl z)))
 
   -- the mark of a transaction applies it on top
-  pub redone-mark : e .id ≢ 0 → NoMark (e .id) xs → e .cnt ≡ suc (length (ofId (e .id) xs)) → e .ver ≡ suc (max floor (top xs))
-      → redone floor (xs ++ (e ∷ [])) m ≡ enter (redone floor xs m) (ofId (e .id) xs ++ (e ∷ []))
+  pub redone-mark : e .id ≢ 0 → NoMark (e .id) xs → e .cnt ≢ 0 → e .cnt ≡ length (ofId (e .id) fs) → e .ver ≡ suc (max floor (top xs))
+      → redone floor fs m ≡ enter (redone floor xs m) (ofId (e .id) fs)
   unfolding redone
-  redone-mark i n c v =
-      let d : e .cnt ≡ length (pagesOf (xs ++ (e ∷ [])) e) = c ∙ rw (pages-many xs e i, length-append (ofId (e .id) xs) (e ∷ [])) (omega arith) in
-      rw (applied-mark floor xs e (noMark-apart e xs n) (omega arith) v d, pages-many xs e i)
-      (enter-append m (applied floor xs) (ofId (e .id) xs ++ (e ∷ [])))
+  redone-mark i n z c v =
+      let d : e .cnt ≡ length (pagesOf fs e) = c ∙ rw (pages-many fs e i) in
+      rw (applied-mark floor e s (noMark-apart e xs n) z v d, pages-many fs e i) (enter-append m (applied floor xs) (ofId (e .id) fs))
 
   -- a lone page sets its entry
-  pub redone-lone : e .id ≡ 0 → e .cnt ≡ 1 → e .ver ≡ suc (max floor (top xs)) → redone floor (xs ++ (e ∷ [])) m ≡ enterPage (redone floor xs m) (e .lpn) (e .ppn)
+  pub redone-lone : e .id ≡ 0 → e .cnt ≡ 1 → e .ver ≡ suc (max floor (top xs)) → redone floor fs m ≡ enterPage (redone floor xs m) (e .lpn) (e .ppn)
   unfolding redone enter
   redone-lone z c v =
-      let d : e .cnt ≡ length (pagesOf (xs ++ (e ∷ [])) e) = c ∙ rw (pages-lone (xs ++ (e ∷ [])) e z) in
-      rw (applied-mark floor xs e (lone-apart e xs z) (omega arith) v d, pages-lone (xs ++ (e ∷ [])) e z)
-      (enter-append m (applied floor xs) (e ∷ []))
+      let d : e .cnt ≡ length (pagesOf fs e) = c ∙ rw (pages-lone fs e z) in
+      rw (applied-mark floor e s (lone-apart e xs z) (omega arith) v d, pages-lone fs e z) (enter-append m (applied floor xs) (e ∷ []))
 
 -- where nothing is above the floor, nothing is redone
 pub redone-none : (floor : ℕ) (m : List ℕ) (xs : List Entry) → top xs ≤ floor → redone floor xs m ≡ m

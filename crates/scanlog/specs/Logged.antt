@@ -5,7 +5,7 @@ use mathlib.Core.Logic.{_≢_}
 use mathlib.Core.Bool.{true, false}
 use Prim.Native.Nat.{ℕ, suc, max}
 use native.Mathlib.Omega.{arith}
-use mathlib.Core.List.{List, [], _∷_, _++_}
+use mathlib.Core.List.{List, [], _∷_}
 use lib.ListN.{length}
 use lib.Dec.{eqb}
 use Rattle.model.specs.Lists.{any, allHeads, those}
@@ -14,8 +14,9 @@ use Rattle.model.specs.Zones.{Entry, onPages}
 use Rattle.model.specs.Recovery.{ofId, top, enter, redone, pagesGood}
 use Rattle.arrays.specs.Tests.{or-false-left, or-false-right}
 use Rattle.scanlog.specs.Sublist.{Sublist}
-use Rattle.scanlog.specs.Log.{NoMark, redone-page, redone-mark, redone-lone, redone-none, top-one}
-use Rattle.scanlog.specs.Good.{Plain, pagesGood-sub, pagesGood-one, good-page, good-mark, good-lone, top-sub}
+use Rattle.scanlog.specs.Insert.{Insert}
+use Rattle.scanlog.specs.Log.{NoMark, redone-page, redone-mark, redone-lone, redone-none, top-insert}
+use Rattle.scanlog.specs.Good.{Plain, pagesGood-sub, pagesGood-insert, good-page, good-mark, good-lone, page-clears, mark-clears, top-sub}
 
 -- saved: the map of the checkpoint, floor: its last version; es: the scan; map and version: what recovery makes of them
 pub record Logged (logical floor : ℕ) (saved : List ℕ) (es : List Entry) (map : List ℕ) (version : ℕ) : Type 0 where
@@ -28,30 +29,31 @@ pub logged-start : (logical version : ℕ) (map : List ℕ) → Logged logical v
 unfolding pagesGood allHeads top
 logged-start logical version map = record { good = refl; made = redone-none version map [] (omega arith); last = omega arith }
 
-module _ (logical floor : ℕ) (saved : List ℕ) (es : List Entry) (map : List ℕ) (version : ℕ) (h : Logged logical floor saved es map version) (e : Entry) (plain : Plain logical e) where
+module _ (logical floor : ℕ) (saved : List ℕ) {es fs : List Entry} (map : List ℕ) (version : ℕ) (h : Logged logical floor saved es map version) (e : Entry) (s : Insert e es fs)
+    (plain : Plain logical e) where
   -- a page of an open change
-  pub logged-page : e .id ≢ 0 → e .cnt ≡ 0 → e .ver ≡ 0 → NoMark (e .id) es → Logged logical floor saved (es ++ (e ∷ [])) map version
+  pub logged-page : e .id ≢ 0 → e .cnt ≡ 0 → e .ver ≡ 0 → NoMark (e .id) es → Logged logical floor saved fs map version
   logged-page i c v n = record {
-    good = pagesGood-one logical es e (h .good) (good-page logical es e plain i c v);
-    made = redone-page floor saved es e c v n ∙ h .made;
-    last = omega (arith, h .last, top-one es e);
+    good = pagesGood-insert logical e s (page-clears e es c v) (h .good) (good-page logical es e plain i c v);
+    made = redone-page floor saved e s c n ∙ h .made;
+    last = omega (arith, h .last, top-insert e s);
   }
 
   -- the mark that closes it
-  pub logged-mark : e .id ≢ 0 → NoMark (e .id) es → e .cnt ≡ suc (length (ofId (e .id) es)) → e .ver ≡ suc version
-      → Logged logical floor saved (es ++ (e ∷ [])) (enter map (ofId (e .id) es ++ (e ∷ []))) (suc version)
-  logged-mark i n c v = record {
-    good = pagesGood-one logical es e (h .good) (good-mark logical es e plain i n (omega arith) (omega (arith, h .last)));
-    made = redone-mark floor saved es e i n c (omega (arith, h .last)) ∙ ap (λ (m : List ℕ). enter m (ofId (e .id) es ++ (e ∷ []))) (h .made);
-    last = omega (arith, h .last, top-one es e);
+  pub logged-mark : e .id ≢ 0 → NoMark (e .id) es → e .cnt ≢ 0 → e .cnt ≡ length (ofId (e .id) fs) → e .ver ≡ suc version
+      → Logged logical floor saved fs (enter map (ofId (e .id) fs)) (suc version)
+  logged-mark i n z c v = record {
+    good = pagesGood-insert logical e s (mark-clears e es (λ r. n) (omega (arith, h .last))) (h .good) (good-mark logical es e plain i n z (omega (arith, h .last)));
+    made = redone-mark floor saved e s i n z c (omega (arith, h .last)) ∙ ap (λ (m : List ℕ). enter m (ofId (e .id) fs)) (h .made);
+    last = omega (arith, h .last, top-insert e s);
   }
 
   -- a lone page
-  pub logged-lone : e .id ≡ 0 → e .cnt ≡ 1 → e .ver ≡ suc version → Logged logical floor saved (es ++ (e ∷ [])) (enterPage map (e .lpn) (e .ppn)) (suc version)
+  pub logged-lone : e .id ≡ 0 → e .cnt ≡ 1 → e .ver ≡ suc version → Logged logical floor saved fs (enterPage map (e .lpn) (e .ppn)) (suc version)
   logged-lone i c v = record {
-    good = pagesGood-one logical es e (h .good) (good-lone logical es e plain i c (omega (arith, h .last)));
-    made = redone-lone floor saved es e i c (omega (arith, h .last)) ∙ ap (λ (m : List ℕ). enterPage m (e .lpn) (e .ppn)) (h .made);
-    last = omega (arith, h .last, top-one es e);
+    good = pagesGood-insert logical e s (mark-clears e es (λ r. absurd (r i)) (omega (arith, h .last))) (h .good) (good-lone logical es e plain i c (omega (arith, h .last)));
+    made = redone-lone floor saved e s i c (omega (arith, h .last)) ∙ ap (λ (m : List ℕ). enterPage m (e .lpn) (e .ppn)) (h .made);
+    last = omega (arith, h .last, top-insert e s);
   }
 
 -- a checkpoint saves map and last version, and a part of what was scanned is scanned from then on: what is redone is its own map

@@ -17,7 +17,7 @@ use Rattle.model.specs.Frame.{noPlace}
 use Rattle.model.specs.Transactions.{heldPage, begun, written, entered}
 use Rattle.model.specs.declared.Place.{Place}
 use Rattle.arrays.specs.Tests.{Is, eqb-cases, any-at}
-use Rattle.scanlog.specs.Log.{NoMark, ofId-same, enter-append}
+use Rattle.scanlog.specs.Log.{NoMark, enter-append}
 use Rattle.scanlog.specs.Good.{dataEntry}
 use Rattle.scanlog.specs.Logged.{off-none}
 
@@ -110,9 +110,10 @@ module _ (p : Place) (es : List Entry) (o : Open p es) where
       o ∙ rw (a, b) (laid-zero (p .id) (p .lpns) (p .ppns) ∙ sym (laid-zero (p .id) _ _))
 
   -- the next one programs the page held before it
-  pub open-more : (k lpn : ℕ) → p .count ≢ 0 → p .count ≤ length (p .ppns) → Open (written p k lpn) (es ++ (openEntry (p .id) k (heldPage p) ∷ []))
+  pub open-more : (fs : List Entry) (k lpn : ℕ) → p .count ≢ 0 → p .count ≤ length (p .ppns) → ofId (p .id) fs ≡ ofId (p .id) es ++ (openEntry (p .id) k (heldPage p) ∷ [])
+      → Open (written p k lpn) fs
   unfolding written
-  open-more k lpn z l =
+  open-more fs k lpn z l turn =
       let n = p .count - 1 in
       let c : p .count ≡ suc n = omega arith in
       let b : p .count + 1 - 1 ≡ suc n = omega arith in
@@ -123,13 +124,13 @@ module _ (p : Place) (es : List Entry) (o : Open p es) where
       let t : laid (p .id) (set (p .lpns) (p .count) lpn) (set (p .ppns) n k) (suc n) ≡ laid (p .id) (p .lpns) (p .ppns) n ++ (e ∷ [])
       = laid-suc (p .id) (set (p .lpns) (p .count) lpn) (set (p .ppns) n k) n
       ∙ rw (s, getD-set-same (p .ppns) n k 0 (omega arith), getD-set-other (p .lpns) (p .count) n lpn 0 (λ q. absurd (omega arith))) in
-      ofId-same (p .id) es e refl ∙ ap (λ (l : List Entry). l ++ (e ∷ [])) o ∙ rw (ne-eqb (p .count) 0 z, b) (sym t)
+      turn ∙ ap (λ (l : List Entry). l ++ (e ∷ [])) o ∙ rw (ne-eqb (p .count) 0 z, b) (sym t)
 
   -- the mark: what redoing the transaction enters is what the commit enters
-  pub open-mark : (m : List ℕ) (e : Entry) → p .count ≢ 0 → p .count ≤ length (p .ppns) → e .lpn ≡ heldPage p
-      → enter m (ofId (p .id) es ++ (e ∷ [])) ≡ entered m (p .lpns) (set (p .ppns) (p .count - 1) (e .ppn)) (p .count)
+  pub open-mark : (fs : List Entry) (m : List ℕ) (e : Entry) → p .count ≢ 0 → p .count ≤ length (p .ppns) → e .lpn ≡ heldPage p → ofId (p .id) fs ≡ ofId (p .id) es ++ (e ∷ [])
+      → enter m (ofId (p .id) fs) ≡ entered m (p .lpns) (set (p .ppns) (p .count - 1) (e .ppn)) (p .count)
   unfolding enter
-  open-mark m e z l q =
+  open-mark fs m e z l q turn =
       let n = p .count - 1 in
       let c : p .count ≡ suc n = omega arith in
       let qs = set (p .ppns) n (e .ppn) in
@@ -138,7 +139,7 @@ module _ (p : Place) (es : List Entry) (o : Open p es) where
       let a : enter m (ofId (p .id) es) ≡ entered m (p .lpns) qs n = ap (enter m) (o ∙ s) ∙ laid-entered m (p .id) (p .lpns) qs n in
       let t : entered m (p .lpns) qs (suc n) ≡ enterPage (entered m (p .lpns) qs n) (e .lpn) (e .ppn)
       = entered-suc m (p .lpns) qs n ∙ rw (getD-set-same (p .ppns) n (e .ppn) 0 (omega arith), q) in
-      enter-append m (ofId (p .id) es) (e ∷ []) ∙ ap (λ (l : List ℕ). enterPage l (e .lpn) (e .ppn)) a ∙ sym t ∙ ap (entered m (p .lpns) qs) (sym c)
+      ap (enter m) turn ∙ enter-append m (ofId (p .id) es) (e ∷ []) ∙ ap (λ (l : List ℕ). enterPage l (e .lpn) (e .ppn)) a ∙ sym t ∙ ap (entered m (p .lpns) qs) (sym c)
 
 -- an identifier on no page: a change begins
 pub open-begun : (id : ℕ) (es : List Entry) → onPages id es ≡ false → Open (begun id) es

@@ -1,5 +1,5 @@
 -- A data page programmed on the next page: the array, the zones and the log after it, done or cut short.
-use mathlib.Core.Path.{_≡_, sym, ap, _∙_, subst}
+use mathlib.Core.Path.{_≡_, refl, sym, ap, _∙_, subst}
 use mathlib.Core.Logic.{_≢_}
 use mathlib.Core.Bool.{true, false}
 use Prim.Native.Nat.{ℕ, _≤_, _<_}
@@ -9,6 +9,7 @@ use lib.ListN.{length}
 use Rattle.model.specs.Page.{pageAt, dataAt, blankAt, wholeAt, spareOf, pageBytes}
 use Rattle.model.specs.Geometry.{unmapped, dataPage}
 use Rattle.model.specs.Zones.{Entry, scanOf, entryOf}
+use Rattle.model.specs.Recovery.{ofId}
 use Rattle.model.specs.World.{World, Op, Plan, program, applyOp, dueBits, turnedBits, everyTurned, cutOp}
 use Rattle.model.specs.Transactions.{cleanPages, nextPage}
 use Rattle.model.specs.Book.{Book, Content}
@@ -22,6 +23,8 @@ use Rattle.arrays.specs.Arrays.{ProgramOk, image-ok, programmed-whole, programm
 use Rattle.front.specs.Newest.{SameFront}
 use Rattle.front.specs.Front.{front-away}
 use Rattle.scanlog.specs.Occ.{occ}
+use Rattle.scanlog.specs.Insert.{Insert, insert-last}
+use Rattle.scanlog.specs.Log.{ofId-last}
 use Rattle.scanlog.specs.Logged.{Logged}
 use Rattle.scanlog.specs.Tidy.{Tidy, next-data, next-fits, next-erased, tidy-program, scan-order-is-write-order, tidy-cut, scan-torn}
 use Rattle.scanlog.specs.Free.{grown-scan, grown-tidy}
@@ -96,10 +99,21 @@ module _ (w : World) (b : Book) (h : Live w b) (clean : 0 < cleanPages w) (d : L
   pub append-tidy : Tidy g appended (w .state .zones)
   append-tidy = tidy-program g xs (w .state .zones) (h .tidy) clean (g .pages) (pageBytes d s) append-ok
 
-  pub append-scan : scanOf appended (g .pages) (w .state .zones) ≡ scanned w ++ (entryOf k s ∷ [])
+  -- what is scanned then
+  abbrev pub rescanned : List Entry
+  rescanned = scanOf appended (g .pages) (w .state .zones)
+
+  append-scan : rescanned ≡ scanned w ++ (entryOf k s ∷ [])
   append-scan =
       scan-order-is-write-order g xs (w .state .zones) (h .tidy) clean (g .pages) (pageBytes d s) append-ok
       ∙ ap (λ (t : Spare). scanned w ++ (entryOf k t ∷ [])) (image-spare d s long)
+
+  -- its entry is put in, as the last of its change
+  pub append-in : Insert (entryOf k s) (scanned w) rescanned
+  append-in = subst (Insert (entryOf k s) (scanned w)) (sym append-scan) (insert-last (entryOf k s) (scanned w))
+
+  pub append-turn : ofId (entryOf k s .id) rescanned ≡ ofId (entryOf k s .id) (scanned w) ++ (entryOf k s ∷ [])
+  append-turn = ap (ofId (entryOf k s .id)) append-scan ∙ ofId-last (entryOf k s .id) (scanned w) (entryOf k s) refl
 
   front-same : (ys : List ℕ) → ((j : ℕ) → (j ≡ k → ⊥) → pageAt ys j ≡ pageAt xs j) → SameFront xs ys (g .pages)
   front-same ys o j l = o j (λ q. absurd (omega (arith, q, page-least g k next-is-data)))
@@ -115,7 +129,7 @@ module _ (w : World) (b : Book) (h : Live w b) (clean : 0 < cleanPages w) (d : L
   saved-scan ys = grown-scan (h .saved .zones) (w .state .zones) (h .grown) ys (g .pages)
 
   pub append-sound : (map : List ℕ) (version : ℕ) (ps : List Content)
-      → Logged (g .logical) (h .saved .version) (h .saved .map) (scanned w ++ (entryOf k s ∷ [])) map version
+      → Logged (g .logical) (h .saved .version) (h .saved .map) rescanned map version
       → MapGood g map → length map ≡ g .logical → Contents appended map ps → version ≤ 4294967294 → Sound g appended (h .saved) map version ps
   append-sound map version ps l m e c v = record {
     geometry = h .sound .geometry;
@@ -125,7 +139,7 @@ module _ (w : World) (b : Book) (h : Live w b) (clean : 0 < cleanPages w) (d : L
     front = front-away g xs (h .saved) (h .sound .front) appended append-front;
     sane = h .sound .sane;
     tidy = saved-tidy appended append-tidy;
-    logged = subst (λ (es : List Entry). Logged (g .logical) (h .saved .version) (h .saved .map) es map version) (sym (saved-scan appended ∙ append-scan)) l;
+    logged = subst (λ (es : List Entry). Logged (g .logical) (h .saved .version) (h .saved .map) es map version) (sym (saved-scan appended)) l;
     good = m;
     wide = e;
     contents = c;

@@ -5,14 +5,14 @@ use mathlib.Core.Bool.{true, false}
 use Prim.Native.Nat.{ℕ, suc, _+_, _-_, _≤_, _<_}
 use native.Mathlib.Omega.{arith}
 use native.Mathlib.Numerals.{add-one}
-use mathlib.Core.List.{List, [], _∷_, _++_}
+use mathlib.Core.List.{List, [], _∷_}
 use lib.ListN.{length, getD, set}
 use lib.Seq.{getD-set-same, getD-set-other, take-all}
 use lib.Dec.{eqb, leb, ltb}
 use borrow.Author.Tests.{eqb-true, eqb-false, ltb-true, ltb-false}
 use Rattle.model.specs.Page.{pageAt, spareOf, wholeAt, blankAt}
 use Rattle.model.specs.Geometry.{dataPage}
-use Rattle.model.specs.Zones.{entryOf}
+use Rattle.model.specs.Zones.{Entry, entryOf}
 use Rattle.model.specs.Answers.{refused}
 use Rattle.model.specs.World.{World, Plan, applyOp}
 use Rattle.model.specs.Frame.{freePlace, noPlace, badId, isIdle}
@@ -28,7 +28,8 @@ use Rattle.arrays.specs.Image.{SpareFits}
 use Rattle.arrays.specs.Whole.{whole-not-blank}
 use Rattle.front.specs.Kept.{kept-away}
 use Rattle.scanlog.specs.Occ.{occ}
-use Rattle.scanlog.specs.Log.{ofId-other}
+use Rattle.scanlog.specs.Insert.{Insert, insert-length}
+use Rattle.scanlog.specs.Log.{ofId-other, ofId-in}
 use Rattle.scanlog.specs.Logged.{Logged, logged-mark}
 use Rattle.scanlog.specs.Open.{opens-set, open-noMark, open-length, open-mark}
 use Rattle.sequence.specs.Contents.{Contents}
@@ -39,7 +40,7 @@ use Rattle.sequence.specs.View.{View, yes, view-test, view-gate, view-co
 use Rattle.sequence.specs.Abort.{changing-close, found-apart, forget-live}
 use Rattle.sequence.specs.Lone.{changing-grow, room-clean}
 use Rattle.sequence.specs.PlaceIn.{PlaceIn, place-in, first-passes, good-name}
-use Rattle.sequence.specs.Append.{Appends, appends, appended, next-is-data, next-blank, next-free, append-whole, append-data, append-spare, append-keeps, append-tidy, append-scan, append-front, append-sound, append-contents}
+use Rattle.sequence.specs.Append.{Appends, appends, appended, next-is-data, next-blank, next-free, append-whole, append-data, append-spare, append-keeps, append-tidy, rescanned, append-in, append-turn, append-front, append-sound, append-contents}
 
 -- ---- the plan
 pub data Commits (w : World) (id : ℕ) : Plan → Type 0 where
@@ -224,17 +225,25 @@ module _ (w : World) (b : Book) (h : Live w b) (id i : ℕ) (idle : isIdle (w .s
           let t : placeAt ps j .id ≢ p .id = h .places .apart i j (f .low) (omega (arith, h .changing .eight)) (λ r. q .0 (sym r)) some in
           omega (arith, a .free, all-in .others x (λ m c. other-page t a m c (eqb-cases m n)))
 
+  -- what is scanned after it
+  abbrev es : List Entry
+  es = rescanned w b h clean markData markSpare mark-long mark-small mark-fits
+
+  put-in : Insert (entryOf k markSpare) (scanned w) es
+  put-in = append-in w b h clean markData markSpare mark-long mark-small mark-fits
+
   -- what the log makes of it
-  logged : Logged (g .logical) (h .saved .version) (h .saved .map) (scanned w ++ (entryOf k markSpare ∷ [])) map′ v
+  logged : Logged (g .logical) (h .saved .version) (h .saved .map) es map′ v
   unfolding entryOf
   logged =
       let o = h .opens i (f .low) some in
-      let l = logged-mark (g .logical) (h .saved .version) (h .saved .map) (scanned w) (w .map) (w .state .version) (live-logged w b h) (entryOf k markSpare)
+      let l = logged-mark (g .logical) (h .saved .version) (h .saved .map) (w .map) (w .state .version) (live-logged w b h) (entryOf k markSpare) put-in
       (record { kind = refl; reserved = refl; lpn = lpn-low n (omega arith); id = held-name′; ver = λ q. absurd (omega (arith, q, version-small)) }) some (open-noMark p (scanned w) o)
-      (count-is ∙ ap suc (sym (open-length p (scanned w) o))) (add-one (w .state .version)) in
-      subst (λ (u : ℕ). Logged (g .logical) (h .saved .version) (h .saved .map) (scanned w ++ (entryOf k markSpare ∷ [])) map′ u) (sym (add-one (w .state .version)))
-      (subst (λ (m : List ℕ). Logged (g .logical) (h .saved .version) (h .saved .map) (scanned w ++ (entryOf k markSpare ∷ [])) m (suc (w .state .version)))
-      (open-mark p (scanned w) o (w .map) (entryOf k markSpare) many (omega (arith, own .ppns, inside .few)) refl) l)
+      many (count-is ∙ ap suc (sym (open-length p (scanned w) o)) ∙ sym (insert-length _ (ofId-in (p .id) _ put-in refl))) (add-one (w .state .version)) in
+      subst (λ (u : ℕ). Logged (g .logical) (h .saved .version) (h .saved .map) es map′ u) (sym (add-one (w .state .version)))
+      (subst (λ (m : List ℕ). Logged (g .logical) (h .saved .version) (h .saved .map) es m (suc (w .state .version)))
+      (open-mark p (scanned w) o es (w .map) (entryOf k markSpare) many (omega (arith, own .ppns, inside .few)) refl
+      (append-turn w b h clean markData markSpare mark-long mark-small mark-fits)) l)
 
   mark-id : entryOf k markSpare .id ≡ p .id
   unfolding entryOf
@@ -255,9 +264,8 @@ module _ (w : World) (b : Book) (h : Live w b) (id i : ℕ) (idle : isIdle (w .s
     tidy = append-tidy w b h clean markData markSpare mark-long mark-small mark-fits;
     hold = h .hold;
     places = places-set g ps i freePlace (h .places) (free-ok g) (λ z. absurd (z refl));
-    opens = rw (append-scan w b h clean markData markSpare mark-long mark-small mark-fits)
-        (opens-set ps (scanned w) _ i freePlace (h .opens) (λ z. absurd (z refl))
-        (λ j l m z. ofId-other (placeAt ps j .id) (scanned w) _ (λ q. h .places .apart i j (f .low) l (λ r. m (sym r)) some (sym q ∙ mark-id))));
+    opens = opens-set ps (scanned w) _ i freePlace (h .opens) (λ z. absurd (z refl))
+        (λ j l m z. ofId-other (placeAt ps j .id) _ put-in (λ q. h .places .apart i j (f .low) l (λ r. m (sym r)) some (sym q ∙ mark-id)));
     changing = changing-grow (w .array) ys (w .map) map′ (w .hold) (set ps i freePlace) told told refl keeps others-free
         (changing-close (w .array) (w .map) (w .hold) ps b id i f (h .changing) (found-apart w b id i h f) told refl);
   }

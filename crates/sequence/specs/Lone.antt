@@ -5,7 +5,7 @@ use mathlib.Core.Bool.{true, false, not}
 use Prim.Native.Nat.{ℕ, _+_, _<_}
 use native.Mathlib.Omega.{arith}
 use native.Mathlib.Numerals.{add-one}
-use mathlib.Core.List.{List, [], _∷_, _++_}
+use mathlib.Core.List.{List}
 use lib.ListN.{length, set, length-set}
 use lib.Dec.{eqb, leb, ltb}
 use borrow.Author.Tests.{eqb-true, ltb-false, leb-false, not-false}
@@ -36,7 +36,7 @@ use Rattle.sequence.specs.Places.{placeAt}
 use Rattle.sequence.specs.Writes.{Laid, WholeSame, writes-keep}
 use Rattle.sequence.specs.Live.{Changing, Live, live-range, live-logged, scanned}
 use Rattle.sequence.specs.View.{View, yes, view-test, view-gate, idle-only, Keeps, done-live, view-keeps, idle-calm}
-use Rattle.sequence.specs.Append.{Appends, appends, appended, next-is-data, next-mapped, next-blank, next-free, append-whole, append-data, append-keeps, append-tidy, append-scan, append-front, append-sound, append-contents}
+use Rattle.sequence.specs.Append.{Appends, appends, appended, next-is-data, next-mapped, next-blank, next-free, append-whole, append-data, append-keeps, append-tidy, rescanned, append-in, append-front, append-sound, append-contents}
 
 -- ---- the open changes while the array grows
 -- every place keeps its writes
@@ -72,17 +72,20 @@ module _ (w : World) (b : Book) (h : Live w b) (clean : 0 < cleanPages w) (lpn :
       let v = ltb-false 4294967294 (w .state .version + 1) more in
       record { lpn = omega (arith, r .logical-most); cnt = omega arith; id = omega arith; ver = omega arith; kind = omega arith; reserved = omega arith }
 
-  pub lone-logged : Logged (w .state .geometry .logical) (h .saved .version) (h .saved .map) (scanned w ++ (entryOf (nextPage w) (loneSpare lpn (w .state .version + 1)) ∷ []))
+  pub lone-logged : Logged (w .state .geometry .logical) (h .saved .version) (h .saved .map) (rescanned w b h clean d (loneSpare lpn (w .state .version + 1)) long small loneFits)
       (loneMap lpn w) (w .state .version + 1)
   unfolding entryOf
   lone-logged =
       let v = ltb-false 4294967294 (w .state .version + 1) more in
-      rw add-one (logged-lone (w .state .geometry .logical) (h .saved .version) (h .saved .map) (scanned w) (w .map) (w .state .version) (live-logged w b h) _
-      (record { kind = refl; reserved = refl; lpn = low; id = λ q. absurd (omega (arith, q)); ver = λ q. absurd (omega (arith, q)) }) refl refl refl)
+      subst (λ (u : ℕ). Logged (w .state .geometry .logical) (h .saved .version) (h .saved .map) (rescanned w b h clean d (loneSpare lpn (w .state .version + 1)) long small loneFits) (loneMap lpn w) u)
+      (sym (add-one (w .state .version)))
+      (logged-lone (w .state .geometry .logical) (h .saved .version) (h .saved .map) (w .map) (w .state .version) (live-logged w b h) _
+      (append-in w b h clean d (loneSpare lpn (w .state .version + 1)) long small loneFits)
+      (record { kind = refl; reserved = refl; lpn = low; id = λ q. absurd (omega (arith, q)); ver = λ q. absurd (omega (arith, q)) }) refl refl (add-one (w .state .version)))
 
-  pub lone-opens : Opens (w .state .places) (scanned w ++ (entryOf (nextPage w) (loneSpare lpn (w .state .version + 1)) ∷ []))
+  pub lone-opens : Opens (w .state .places) (rescanned w b h clean d (loneSpare lpn (w .state .version + 1)) long small loneFits)
   unfolding entryOf
-  lone-opens = opens-same (w .state .places) (scanned w) _ (h .opens) (λ j l z. ofId-other (placeAt (w .state .places) j .id) (scanned w) _ (λ q. z (sym q)))
+  lone-opens = opens-same (w .state .places) (scanned w) _ (h .opens) (λ j l z. ofId-other (placeAt (w .state .places) j .id) _ (append-in w b h clean d (loneSpare lpn (w .state .version + 1)) long small loneFits) (λ q. z (sym q)))
 
 -- ---- lone write
 pub record Lones (w : World) (lpn : ℕ) (d : List ℕ) (p : Plan) : Type 0 where
@@ -128,7 +131,7 @@ lone-live w b lpn d h small v =
       tidy = append-tidy w b h clean d s (v .long) small fit;
       hold = h .hold;
       places = h .places;
-      opens = rw (append-scan w b h clean d s (v .long) small fit) (lone-opens w b h clean lpn d (v .long) small (v .low) (v .more));
+      opens = lone-opens w b h clean lpn d (v .long) small (v .low) (v .more);
       changing = changing-grow (w .array) ys (w .map) (loneMap lpn w) (w .hold) (w .state .places) b _ refl (append-keeps w b h clean d s (v .long) small fit)
           (λ j l z. laid-still (w .array) (w .map) lpn k (next-blank w b h clean d s (v .long) small fit) (placeAt (w .state .places) j .id)) (h .changing);
     }

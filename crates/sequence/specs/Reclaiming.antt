@@ -48,7 +48,7 @@ use Rattle.sequence.specs.Places.{placeAt}
 use Rattle.sequence.specs.Sound.{Sound, Stored}
 use Rattle.sequence.specs.Live.{Live, live-range, scanned}
 use Rattle.sequence.specs.View.{View, no, yes, view-gate, view-cond, Keeps, done-live, more-live, view-keeps}
-use Rattle.sequence.specs.Append.{appended, next-is-data, next-mapped, next-blank, next-free, append-ok, append-whole, append-data, append-keeps, append-tidy, append-scan, append-front, append-sound, append-contents, Appends, appends}
+use Rattle.sequence.specs.Append.{appended, next-is-data, next-mapped, next-blank, next-free, append-ok, append-whole, append-data, append-keeps, append-tidy, append-front, append-sound, append-contents, Appends, appends}
 use Rattle.sequence.specs.Lone.{changing-grow, laid-still, loneSpare, loneFits, lone-logged, lone-opens}
 use Rattle.sequence.specs.Spared.{Spared, spared-changing, spared-sound, block-spares}
 
@@ -194,7 +194,7 @@ module _ (w : World) (b : Book) (h : Live w b) (c : ℕ) (on : GoingOn w c) wher
       tidy = append-tidy w b h clean d s long small fit;
       hold = h .hold;
       places = h .places;
-      opens = rw (append-scan w b h clean d s long small fit) (lone-opens w b h clean lpn d long small logical-low more);
+      opens = lone-opens w b h clean lpn d long small logical-low more;
       changing = changing-grow xs ys (w .map) (loneMap lpn w) (w .hold) (w .state .places) b b refl (append-keeps w b h clean d s long small fit)
           (λ i l z. laid-still xs (w .map) lpn k (next-blank w b h clean d s long small fit) (placeAt (w .state .places) i .id)) (h .changing);
     }

@@ -28,6 +28,7 @@ use Rattle.arrays.specs.Bytelist.{Bytes, bytes-true}
 use Rattle.arrays.specs.Image.{SpareFits}
 use Rattle.front.specs.Newest.{SameFront}
 use Rattle.front.specs.Kept.{kept-away}
+use Rattle.scanlog.specs.Insert.{Insert}
 use Rattle.scanlog.specs.Log.{ofId-other}
 use Rattle.scanlog.specs.Logged.{Logged, logged-page}
 use Rattle.scanlog.specs.Open.{Open, openEntry, opens-set, open-noMark, open-first, open-more}
@@ -41,7 +42,7 @@ use Rattle.sequence.specs.Live.{Live, live-range, live-logged, scanned}
 use Rattle.sequence.specs.View.{View, no, yes, view-test, view-gate, idle-only, after, told-refused, Keeps, idle-calm}
 use Rattle.sequence.specs.Abort.{found-apart}
 use Rattle.sequence.specs.Lone.{room-clean}
-use Rattle.sequence.specs.Append.{Appends, appends, appended, next-is-data, next-blank, next-free, append-whole, append-data, append-spare, append-keeps, append-tidy, append-scan, append-front, append-sound, append-contents}
+use Rattle.sequence.specs.Append.{Appends, appends, appended, next-is-data, next-blank, next-free, append-whole, append-data, append-spare, append-keeps, append-tidy, rescanned, append-in, append-turn, append-front, append-sound, append-contents}
 
 -- ---- the plan
 pub record WritesTo (w : World) (id lpn : ℕ) (d : List ℕ) (p : Plan) : Type 0 where
@@ -231,15 +232,18 @@ module _ (w : World) (b : Book) (h : Live w b) (id lpn : ℕ) (d : List ℕ) (id
     ys = appended w b h clean pageData pageSpare data-long data-small page-fits
 
     abbrev es : List Entry
-    es = scanned w ++ (openEntry (p .id) k (heldPage p) ∷ [])
+    es = rescanned w b h clean pageData pageSpare data-long data-small page-fits
 
-    same-entry : entryOf k pageSpare ≡ openEntry (p .id) k (heldPage p)
+    put-in : Insert (openEntry (p .id) k (heldPage p)) (scanned w) es
     unfolding entryOf
-    same-entry = refl
+    put-in = append-in w b h clean pageData pageSpare data-long data-small page-fits
 
-    logged : Logged (g .logical) (h .saved .version) (h .saved .map) (scanned w ++ (entryOf k pageSpare ∷ [])) (w .map) (w .state .version)
+    in-turn : ofId (p .id) es ≡ ofId (p .id) (scanned w) ++ (openEntry (p .id) k (heldPage p) ∷ [])
     unfolding entryOf
-    logged = logged-page (g .logical) (h .saved .version) (h .saved .map) (scanned w) (w .map) (w .state .version) (live-logged w b h) _
+    in-turn = append-turn w b h clean pageData pageSpare data-long data-small page-fits
+
+    logged : Logged (g .logical) (h .saved .version) (h .saved .map) es (w .map) (w .state .version)
+    logged = logged-page (g .logical) (h .saved .version) (h .saved .map) (w .map) (w .state .version) (live-logged w b h) _ put-in
         (record { kind = refl; reserved = refl; lpn = held-low; id = held-name; ver = λ q. absurd (omega (arith, q)) }) some refl refl (open-noMark p (scanned w) (h .opens i (f .low) some))
 
     more-live : Live (record { array = ys; map = w .map; hold = holdWith (w .hold) i d; state = withPlace (w .state) i (written p k lpn) })
@@ -248,11 +252,11 @@ module _ (w : World) (b : Book) (h : Live w b) (id lpn : ℕ) (d : List ℕ) (id
         (append-sound w b h clean pageData pageSpare data-long data-small page-fits (w .map) (w .state .version) (b .pages) logged (h .sound .good) (h .sound .wide)
         (append-contents w b h clean pageData pageSpare data-long data-small page-fits) (h .sound .last))
         (append-tidy w b h clean pageData pageSpare data-long data-small page-fits)
-        (append-scan w b h clean pageData pageSpare data-long data-small page-fits ∙ ap (λ (e : Entry). scanned w ++ (e ∷ [])) same-entry)
+        refl
         (append-front w b h clean pageData pageSpare data-long data-small page-fits)
         (append-keeps w b h clean pageData pageSpare data-long data-small page-fits)
-        (open-more p (scanned w) (h .opens i (f .low) some) k lpn many (omega (arith, own .ppns, inside .few)))
-        (λ j l n m. ofId-other (placeAt ps j .id) (scanned w) _ (λ q. h .places .apart i j (f .low) l (λ r. n (sym r)) some (sym q)))
+        (open-more p (scanned w) (h .opens i (f .low) some) es k lpn many (omega (arith, own .ppns, inside .few)) in-turn)
+        (λ j l n m. ofId-other (placeAt ps j .id) _ put-in (λ q. h .places .apart i j (f .low) l (λ r. n (sym r)) some (sym q)))
         (λ n. next-is-data w b h clean pageData pageSpare data-long data-small page-fits)
         (writes-more (w .array) ys (w .map) (w .hold) (holdWith (w .hold) i d) i p (writesOf id (b .changes)) k lpn d own
         (append-keeps w b h clean pageData pageSpare data-long data-small page-fits) room (hold-own (w .hold) i d (h .hold) low8 long) small
