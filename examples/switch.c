@@ -1,6 +1,6 @@
 /*
- * How a switch keeps its settings: power-up, settings saved together, housekeeping in idle time, power cuts. docs/FIRMWARE.md explains
- * it. The flash is an array in memory here. What is not expected is told, and ends the program with status 1.
+ * How a switch keeps its settings: power-up, settings saved and deleted together, housekeeping in idle time, power cuts. docs/FIRMWARE.md
+ * explains it. The flash is an array in memory here. What is not expected is told, and ends the program with status 1.
  */
 #include <stdio.h>
 #include <stdlib.h>
@@ -28,7 +28,7 @@ static int rooms;           /* how often room was made */
 
 #define LENT flash, sizeof flash, map, LOGICAL, hold, sizeof hold, state, sizeof state
 
-/* The settings of a group of ports, on a logical page of their own. */
+/* The settings of a group of ports, on a logical page of their own; without a text the group is to be deleted. */
 struct setting {
     uint16_t lpn;
     const char *text;
@@ -114,10 +114,21 @@ static int make_room(void)
     return clean_pages() > PAGES;
 }
 
-/* Saves n settings as one change: all of them or, if it is refused or power is cut, none. */
+/* Adds one group to the open change: writes its settings or, if it is to be deleted, drops its page. */
+static uint8_t add(const struct setting *setting)
+{
+    uint8_t data[BOKUHIRA_DATA] = { 0 };
+
+    if (setting->text == NULL)
+        return bokuhira_drop(LENT, identifier, setting->lpn);
+    snprintf((char *)data, sizeof data, "%s", setting->text);
+    return bokuhira_write(LENT, data, sizeof data, identifier, setting->lpn);
+}
+
+/* Saves or deletes n groups as one change: all of them or, if it is refused or power is cut, none. */
 static uint8_t save(const struct setting *settings, int n)
 {
-    uint8_t answer, data[BOKUHIRA_DATA];
+    uint8_t answer;
     int i;
 
     if (state[BOKUHIRA_AT_KIND] != BOKUHIRA_KIND_NONE) /* else 17 */
@@ -127,13 +138,10 @@ static uint8_t save(const struct setting *settings, int n)
     while (answer == BOKUHIRA_IDENTIFIER_LIVE || answer == BOKUHIRA_BAD_IDENTIFIER);
     if (answer != BOKUHIRA_DONE)
         return answer;
-    for (i = 0; i < n && answer == BOKUHIRA_DONE; i++) {
-        memset(data, 0, sizeof data);
-        snprintf((char *)data, sizeof data, "%s", settings[i].text);
+    for (i = 0; i < n && answer == BOKUHIRA_DONE; i++)
         do
-            answer = bokuhira_write(LENT, data, sizeof data, identifier, settings[i].lpn);
+            answer = add(&settings[i]);
         while (answer == BOKUHIRA_ZONE_SHORT && make_room());
-    }
     if (answer == BOKUHIRA_DONE)
         do
             answer = bokuhira_commit(LENT, identifier);
@@ -194,6 +202,7 @@ int main(void)
 {
     static const struct setting factory[] = { { 0, "vlan 1, ports 1-22" }, { 1, "mirror off" }, { 2, "ring 7, ports 23-24" } };
     static const struct setting site[] = { { 0, "vlan 20, ports 1-22" }, { 2, "ring 9, ports 23-24" } };
+    static const struct setting no_ring[] = { { 0, "vlan 20, ports 1-24" }, { 2, NULL } };
     static const uint8_t lost[BOKUHIRA_DATA] = "half a change";
     int i;
 
@@ -223,6 +232,10 @@ int main(void)
         if (i == 0)
             must("save", save(site, 2)); /* between two strides: the rest of that work is done first */
     printf("housekeeping, %d strides: clean pages %d, free blocks %d\n", i, clean_pages(), state[BOKUHIRA_AT_FREE_COUNT]);
+    cut();
+
+    must("save", save(no_ring, 2)); /* the ring is given up: its group goes, and its ports join group 0 */
+    printf("saved and deleted as change %u\n", (unsigned)identifier);
     cut();
     return 0;
 }

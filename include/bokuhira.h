@@ -31,8 +31,10 @@
  *               its pages), free (erased), or checkpointed (in no list: what it still holds stands in the checkpoint's map).
  *   scan order  the unavailable blocks, then the available ones, in the order of their lists, each from page 0: what a recovery reads
  *               besides the front.
- *   change      an open transaction: pages that are saved together, all or none, under an identifier that the caller chooses. It has
- *               one of eight places, and its newest page is held in memory, until the next write or the commit programs it.
+ *   change      an open transaction: pages that are saved or dropped together, all or none, under an identifier that the caller
+ *               chooses. It has one of eight places, and its newest page is held in memory, until the next write or drop or the commit
+ *               programs it.
+ *   unmapped    a logical page that was never written, or was dropped: a read refuses it with 14. The two are one.
  *   stride      what one call does of a command that takes several.
  *
  * Threads. The functions share nothing: calls on different buffers may run at the same time. On the same buffers calls of bokuhira_read
@@ -55,14 +57,14 @@ extern "C" {
 #endif
 
 #define BOKUHIRA_VERSION_MAJOR 0
-#define BOKUHIRA_VERSION_MINOR 4
+#define BOKUHIRA_VERSION_MINOR 5
 #define BOKUHIRA_VERSION_PATCH 0
-#define BOKUHIRA_VERSION "0.4.0"
+#define BOKUHIRA_VERSION "0.5.0"
 
 /*
  * The state: each field by its offset, little-endian, with nothing left between the fields. BOKUHIRA_STATE bytes encode a state if the
- * kind is 0 to 3 and the stride number is 0 where the kind is 0 or 3. What a state must say besides, to be in range, is part of
- * refusal 1. Entries of a list past its count are not looked at.
+ * kind is 0 to 3, the stride number is 0 where the kind is 0 or 3, and each byte that says whether a page is a drop is 0 or 1, those past
+ * a count too. What a state must say besides, to be in range, is part of refusal 1. Entries of a list past its count are not looked at.
  */
 #define BOKUHIRA_AT_BLOCKS 0              /* 2 bytes */
 #define BOKUHIRA_AT_PAGES 2               /* 2 bytes: pages a block */
@@ -81,7 +83,7 @@ extern "C" {
 #define BOKUHIRA_AT_KIND 275              /* 1 byte: the work under way, BOKUHIRA_KIND_.. */
 #define BOKUHIRA_AT_STRIDE 276            /* 2 bytes: of a format its strides done, of a checkpoint its pages programmed, else 0 */
 #define BOKUHIRA_AT_PLACES 278            /* BOKUHIRA_PLACES places of BOKUHIRA_PLACE bytes */
-#define BOKUHIRA_STATE 2366
+#define BOKUHIRA_STATE 2878
 
 #define BOKUHIRA_KIND_NONE 0
 #define BOKUHIRA_KIND_FORMAT 1
@@ -93,7 +95,8 @@ extern "C" {
 #define BOKUHIRA_PLACE_COUNT 4      /* 1 byte: pages written; the last of them is held, those before it are programmed */
 #define BOKUHIRA_PLACE_LOGICAL 5    /* 128 bytes: their logical pages, 64 numbers of 2 bytes */
 #define BOKUHIRA_PLACE_PAGES 133    /* 128 bytes: the pages they are programmed on, 64 numbers of 2 bytes */
-#define BOKUHIRA_PLACE 261
+#define BOKUHIRA_PLACE_DROPS 261    /* 64 bytes: 1 for each that is a drop, 0 for a write */
+#define BOKUHIRA_PLACE 325
 
 /* Lengths, in bytes. BOKUHIRA_ARRAY and BOKUHIRA_ARRAY_MAX are of type size_t; every other number here may stand in #if too. */
 #define BOKUHIRA_PAGE 528 /* a page in the array */
@@ -129,7 +132,7 @@ extern "C" {
 /* The map pages of a checkpoint, which has the zone page besides. */
 #define BOKUHIRA_MAP_PAGES(logical) (((logical) + 255) / 256)
 
-/* The map entry of a logical page that was never written. */
+/* The map entry of an unmapped logical page: never written, or dropped. */
 #define BOKUHIRA_UNMAPPED 0xFFFF
 
 /* Answers. bokuhira_text says each in a line; here stands what a line cannot say. */
@@ -142,18 +145,19 @@ extern "C" {
 #define BOKUHIRA_BAD_CHECKPOINT 3 /* map: an entry other than 0xFFFF outside the data blocks or repeated, or one past the logical pages
                                      that is not 0xFFFF; zones: more than blocks - 2 in all or three available, a block or the pointer
                                      outside the data blocks, a block repeated, free ones not ascending, the rest of the page not 0 */
-#define BOKUHIRA_BAD_PAGE 4 /* Kind or Reserved not 0; LPN too high; only one of TxCnt and TxVer 0; TxID or TxVer 0xFFFFFFFF; TxID 0 with
-                               TxCnt not 1; a second mark (TxCnt not 0) of one nonzero TxID; a TxVer above 0 that is repeated */
+#define BOKUHIRA_BAD_PAGE 4 /* Kind neither 0 (a write) nor 3 (a drop); Reserved not 0; LPN too high; only one of TxCnt and TxVer 0; TxID
+                               or TxVer 0xFFFFFFFF; TxID 0 with TxCnt not 1; a second mark (TxCnt not 0) of one nonzero TxID; a TxVer
+                               above 0 that is repeated */
 #define BOKUHIRA_BAD_LOGICAL_PAGE 5
 #define BOKUHIRA_BAD_IDENTIFIER 6
 #define BOKUHIRA_IDENTIFIER_LIVE 7 /* a closed change's pages are in scan order until a checkpoint has made their blocks checkpointed */
 #define BOKUHIRA_NOT_BEGUN 8
 #define BOKUHIRA_PLACES_FULL 9
-#define BOKUHIRA_TOO_LONG 10 /* BOKUHIRA_CHANGE_PAGES pages or more are written: no write goes on with it, a commit or an abort does */
+#define BOKUHIRA_TOO_LONG 10 /* BOKUHIRA_CHANGE_PAGES pages or more, drops among them: no write or drop goes on, a commit or an abort does */
 #define BOKUHIRA_BAD_LENGTH 11
 #define BOKUHIRA_ZONE_SHORT 12     /* a page must be programmed, and no more clean pages are available than a block has pages */
 #define BOKUHIRA_VERSIONS_SPENT 13 /* a number above 0xFFFFFFFE would be needed */
-#define BOKUHIRA_NEVER_WRITTEN 14
+#define BOKUHIRA_NEVER_WRITTEN 14 /* the map has it unmapped: never written, or its last committed write was a drop */
 #define BOKUHIRA_NO_GAIN 15
 #define BOKUHIRA_RESERVE_SHORT 16
 #define BOKUHIRA_BUSY 17
@@ -210,7 +214,7 @@ static inline const char *bokuhira_text(uint8_t answer)
     case BOKUHIRA_BAD_LENGTH: return "the data are not 512 bytes";
     case BOKUHIRA_ZONE_SHORT: return "too few clean pages are available; checkpoint, and if that is not enough reclaim and checkpoint again";
     case BOKUHIRA_VERSIONS_SPENT: return "no version or checkpoint number is left";
-    case BOKUHIRA_NEVER_WRITTEN: return "the logical page was never written";
+    case BOKUHIRA_NEVER_WRITTEN: return "the logical page was never written, or was dropped";
     case BOKUHIRA_NO_GAIN: return "no checkpointed block has an unmapped page";
     case BOKUHIRA_RESERVE_SHORT: return "fewer clean pages are available than must be copied";
     case BOKUHIRA_BUSY: return "another command of several strides is under way; finish it first";
@@ -263,6 +267,18 @@ uint8_t bokuhira_write(uint8_t *array, size_t array_len, const uint16_t *map, si
                        uint8_t *state, size_t state_len, const uint8_t *data, size_t data_len, uint32_t id, uint16_t lpn);
 
 /*
+ * Adds the drop of a logical page to an open change. It is a page of the change like any other, of Kind 3 and with data all 0xFF: it is
+ * counted, it is held, and the one held before it is programmed. From the commit on the logical page is unmapped, as if it had never
+ * been written, and what it held no longer takes up room: the next reclaim of its block leaves it behind. A page written and dropped in
+ * one change is what the later of the two makes it. A page that is unmapped may be dropped: the change then leaves it unmapped,
+ * whatever was written to it meanwhile.
+ * Changes array, hold, state. Refuses: 1, 17, 5, 8, 10, 12 (the last only where a page is held).
+ */
+BOKUHIRA_CHECKED
+uint8_t bokuhira_drop(uint8_t *array, size_t array_len, const uint16_t *map, size_t map_len, uint8_t *hold, size_t hold_len,
+                      uint8_t *state, size_t state_len, uint32_t id, uint16_t lpn);
+
+/*
  * Writes one page, as a change by itself.
  * Changes array, map, state. Refuses: 1, 17, 11, 5, 13, 12.
  */
@@ -271,8 +287,8 @@ uint8_t bokuhira_lone(uint8_t *array, size_t array_len, uint16_t *map, size_t ma
                       uint8_t *state, size_t state_len, const uint8_t *data, size_t data_len, uint16_t lpn);
 
 /*
- * Closes a change and enters all its pages, in the order in which they were written. From here on they outlive a power cut. A change
- * with nothing written is closed with no page and no version. Refused, it stays open.
+ * Closes a change and enters all its pages, writes and drops, in the order in which they came. From here on they outlive a power cut. A
+ * change with nothing written is closed with no page and no version. Refused, it stays open.
  * Changes array, map, state. Refuses: 1, 17, 8, 13, 12 (the last two only where a page is held).
  */
 BOKUHIRA_CHECKED

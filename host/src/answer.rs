@@ -16,7 +16,7 @@ const REFUSALS: [(&str, &str); 17] = [
     ("bad length", "the data are not 512 bytes"),
     ("zone short", "too few clean pages are available; checkpoint, and if that is not enough reclaim and checkpoint again"),
     ("versions spent", "no version or checkpoint number is left"),
-    ("never written", "the logical page was never written"),
+    ("never written", "the logical page was never written, or was dropped"),
     ("no gain", "no checkpointed block has an unmapped page"),
     ("reserve short", "fewer clean pages are available than must be copied"),
     ("busy", "another command of several strides is under way; finish it first"),

@@ -1,5 +1,5 @@
-//! The proved flash layer for programs in Rust: the ten commands of document 01 (docs/PAPERS.md) over buffers that a
-//! `Store` owns.
+//! The proved flash layer for programs in Rust: the ten commands of document 01 (docs/PAPERS.md) and document 02's drop, over buffers that
+//! a `Store` owns.
 //!
 //! Nothing is required of a caller: any array, map, hold and state of any length may be handed in. A call is carried out, or it is
 //! refused with one of document 01's numbers and every buffer is as it was. `Class` tells what a page is, and how torn.
@@ -21,6 +21,11 @@
 //!     assert_eq!(dark.recover(size), Answer::Done);
 //!     assert_eq!(dark.read(3)?, [0x33; DATA]);
 //!     assert_eq!(dark.read(4)?, [0x44; DATA]);
+//!     // a change that drops a page: from its commit on it reads as never written
+//!     assert_eq!(dark.begin(8), Answer::Done);
+//!     assert_eq!(dark.drop_page(8, 3), Answer::Done);
+//!     assert_eq!(dark.commit(8), Answer::Done);
+//!     assert_eq!(dark.read(3), Err(Refusal(14)));
 //!     Ok(())
 //! }
 //! ```
@@ -41,10 +46,10 @@ pub const SPARE: usize = 16;
 /// The bytes of the hold: a page of data for each of the eight places.
 pub const HOLD: usize = 4096;
 /// The bytes of a state.
-pub const STATE: usize = 2366;
+pub const STATE: usize = 2878;
 /// The pages up to which a change may be written. One that was begun before version 0.2 may have up to 64: it can be committed or aborted.
 pub const CHANGE_PAGES: usize = 41;
-/// The map entry of a logical page that was never written.
+/// The map entry of a logical page that was never written, or was dropped.
 pub const UNMAPPED: u16 = 0xFFFF;
 
 /// The size of a flash array: blocks, pages in each, and logical pages.
@@ -78,6 +83,7 @@ pub enum Call {
     Recover(Geometry),
     Begin(u32),
     Write { id: u32, lpn: u16, data: Vec<u8> },
+    Drop { id: u32, lpn: u16 },
     Lone { lpn: u16, data: Vec<u8> },
     Commit(u32),
     Abort(u32),
@@ -128,6 +134,12 @@ impl Store {
         Answer::of(raw::write(self, id, lpn, data))
     }
 
+    /// Adds the drop of a page to an open change of fewer than `CHANGE_PAGES`: after the commit it reads as never written. A page that is
+    /// unmapped may be dropped too.
+    pub fn drop_page(&mut self, id: u32, lpn: u16) -> Answer {
+        Answer::of(raw::drop_page(self, id, lpn))
+    }
+
     /// Writes a page by itself.
     pub fn lone(&mut self, lpn: u16, data: &[u8]) -> Answer {
         Answer::of(raw::lone(self, lpn, data))
@@ -173,6 +185,7 @@ impl Store {
             Call::Recover(g) => self.recover(*g),
             Call::Begin(id) => self.begin(*id),
             Call::Write { id, lpn, data } => self.write(*id, *lpn, data),
+            Call::Drop { id, lpn } => self.drop_page(*id, *lpn),
             Call::Lone { lpn, data } => self.lone(*lpn, data),
             Call::Commit(id) => self.commit(*id),
             Call::Abort(id) => self.abort(*id),

@@ -7,6 +7,7 @@ extern "C" {
     fn bokuhira_recover(a: *const u8, an: usize, m: *mut u16, mn: usize, h: *const u8, hn: usize, s: *mut u8, sn: usize, b: u16, p: u16, l: u16) -> u8;
     fn bokuhira_begin(a: *const u8, an: usize, m: *const u16, mn: usize, h: *const u8, hn: usize, s: *mut u8, sn: usize, id: u32) -> u8;
     fn bokuhira_write(a: *mut u8, an: usize, m: *const u16, mn: usize, h: *mut u8, hn: usize, s: *mut u8, sn: usize, d: *const u8, dn: usize, id: u32, lpn: u16) -> u8;
+    fn bokuhira_drop(a: *mut u8, an: usize, m: *const u16, mn: usize, h: *mut u8, hn: usize, s: *mut u8, sn: usize, id: u32, lpn: u16) -> u8;
     fn bokuhira_lone(a: *mut u8, an: usize, m: *mut u16, mn: usize, h: *const u8, hn: usize, s: *mut u8, sn: usize, d: *const u8, dn: usize, lpn: u16) -> u8;
     fn bokuhira_commit(a: *mut u8, an: usize, m: *mut u16, mn: usize, h: *const u8, hn: usize, s: *mut u8, sn: usize, id: u32) -> u8;
     fn bokuhira_abort(a: *const u8, an: usize, m: *const u16, mn: usize, h: *const u8, hn: usize, s: *mut u8, sn: usize, id: u32) -> u8;
@@ -40,6 +41,10 @@ pub fn begin(s: &mut Store, id: u32) -> u8 {
 
 pub fn write(s: &mut Store, id: u32, lpn: u16, data: &[u8]) -> u8 {
     lent!(bokuhira_write, s, data.as_ptr(), data.len(), id, lpn)
+}
+
+pub fn drop_page(s: &mut Store, id: u32, lpn: u16) -> u8 {
+    lent!(bokuhira_drop, s, id, lpn)
 }
 
 pub fn lone(s: &mut Store, lpn: u16, data: &[u8]) -> u8 {

@@ -2,7 +2,9 @@
 use crate::{Geometry, STATE};
 
 const PLACES: usize = 278;
-const PLACE: usize = 261;
+const PLACE: usize = 325;
+/// Within a place: one byte a page, 0 for a write and 1 for a drop.
+const DROPS: usize = 261;
 
 /// The blocks of each zone, in order; a data block in none of them is checkpointed.
 #[derive(Clone, PartialEq, Eq, Debug, Default)]
@@ -29,12 +31,14 @@ pub struct Work {
     pub stride: u16,
 }
 
-/// A transaction place: the pages written in order, logical and physical. The last of them is held and has no physical page yet.
+/// A transaction place: the pages written in order, logical and physical, and which of them are drops. The last of them is held and has no
+/// physical page yet.
 #[derive(Clone, PartialEq, Eq, Debug, Default)]
 pub struct Place {
     pub id: u32,
     pub lpns: Vec<u16>,
     pub ppns: Vec<u16>,
+    pub drops: Vec<bool>,
 }
 
 impl Place {
@@ -81,6 +85,10 @@ impl State {
         if matches!(kind, Kind::Idle | Kind::Reclaim) && stride != 0 {
             return None;
         }
+        let drops = |i: usize| &b[PLACES + PLACE * i + DROPS..PLACES + PLACE * (i + 1)];
+        if (0..8).any(|i| drops(i).iter().any(|d| *d > 1)) {
+            return None;
+        }
         let blocks = |at: usize, room: usize| b[at..at + (b[at + room] as usize).min(room)].to_vec();
         let zones = Zones { available: blocks(6, 3), unavailable: blocks(10, 126), free: blocks(137, 126), pointer: b[264] };
         let places = (0..8)
@@ -91,6 +99,7 @@ impl State {
                     id: word(b, at),
                     lpns: (0..count).map(|j| half(b, at + 5 + 2 * j)).collect(),
                     ppns: (0..count.saturating_sub(1)).map(|j| half(b, at + 133 + 2 * j)).collect(),
+                    drops: drops(i)[..count].iter().map(|d| *d == 1).collect(),
                 }
             })
             .collect();
@@ -133,6 +142,9 @@ impl State {
             }
             for (j, ppn) in p.ppns.iter().take(64).enumerate() {
                 put(&mut b, at + 133 + 2 * j, &ppn.to_le_bytes());
+            }
+            for (j, drop) in p.drops.iter().take(64).enumerate() {
+                b[at + DROPS + j] = (*drop).into();
             }
         }
         b

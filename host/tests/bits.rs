@@ -1,5 +1,5 @@
-//! Cuts bit by bit: the last program of a commit and of a lone write with every single due bit left out in turn, and every prefix of an
-//! erase. After each, both layers recover with any map, hold and state, and every logical page is read; and the page that was cut is torn
+//! Cuts bit by bit: the last program of a commit and of a lone write, and the program of a held drop, with every single due bit left out in
+//! turn, and every prefix of an erase. After each, both layers recover with any map, hold and state, and every logical page is read; and the page that was cut is torn
 //! by what its bits count.
 mod common;
 
@@ -159,6 +159,46 @@ fn a_commit_without_any_one_bit_is_no_commit() {
         let bits = device.each_bit_left_out(&Call::Commit(77), new);
         say(&format!("bits: a commit with each of {bits} due bits left out"));
         assert!(bits > 1_000);
+    }
+}
+
+/// The settings without a page.
+fn without(settings: &Settings, lpn: usize) -> Settings {
+    settings.iter().enumerate().map(|(i, s)| s.clone().filter(|_| i != lpn)).collect()
+}
+
+/// The mark is a drop: of a page that was written before, in this change, and never.
+#[test]
+fn a_commit_that_drops_without_any_one_bit_is_no_commit() {
+    for (seed, lpn) in (40..).zip([4, 12, 15]) {
+        let mut device = Device::new(seed, 6);
+        let data = device.rng.bytes(DATA);
+        assert_eq!(device.store.begin(77), Answer::Done);
+        assert_eq!(device.store.drop_page(77, 2), Answer::Done);
+        assert_eq!(device.store.write(77, 12, &data), Answer::Done);
+        assert_eq!(device.store.drop_page(77, lpn), Answer::Done);
+        let mut new = without(&device.settings, 2);
+        new[12] = Some(data);
+        new[lpn as usize] = None;
+        let bits = device.each_bit_left_out(&Call::Commit(77), new);
+        say(&format!("bits: a commit whose mark is a drop with each of {bits} due bits left out"));
+        // of the spare area alone: the data are all ones
+        assert!(bits > 80 && bits < 128);
+    }
+}
+
+/// The next write or drop of a change programs the drop that it holds: nothing is entered by it, with all due bits or without one.
+#[test]
+fn a_held_drop_that_is_programmed_changes_nothing() {
+    let data = Rng::new(50).bytes(DATA);
+    for (seed, call) in (50..).zip([Call::Write { id: 77, lpn: 3, data }, Call::Drop { id: 77, lpn: 3 }]) {
+        let mut device = Device::new(seed, 6);
+        assert_eq!(device.store.begin(77), Answer::Done);
+        assert_eq!(device.store.drop_page(77, 2), Answer::Done);
+        let old = device.settings.clone();
+        let bits = device.each_bit_left_out(&call, old);
+        say(&format!("bits: the program of a held drop with each of {bits} due bits left out"));
+        assert!(bits > 80 && bits < 128);
     }
 }
 

@@ -7,10 +7,14 @@ use bokuhira::{Call, Class, Geometry, State, Store, DATA, PAGE, UNMAPPED};
 use common::{due_bits, kind, lost_state, say, Layer, Met, Rng, NAMES};
 use std::collections::BTreeMap;
 
-/// The book: L pages, at first never written, and the open changes, each with its writes in order. It is fed calls, answers and cuts alone.
+/// What the book has of a page: its data, or that it was never written.
+type Content = Option<Vec<u8>>;
+
+/// The book: L pages, at first never written, and the open changes, each with its writes in order. A drop is a write that leaves its page as
+/// never written. It is fed calls, answers and cuts alone.
 struct Book {
-    pages: Vec<Option<Vec<u8>>>,
-    open: BTreeMap<u32, Vec<(u16, Vec<u8>)>>,
+    pages: Vec<Content>,
+    open: BTreeMap<u32, Vec<(u16, Content)>>,
 }
 
 impl Book {
@@ -18,15 +22,19 @@ impl Book {
         Book { pages: vec![None; g.logical as usize], open: BTreeMap::new() }
     }
 
-    fn enter(&mut self, lpn: u16, data: &[u8]) {
-        self.pages[lpn as usize] = Some(data.to_vec());
+    fn enter(&mut self, lpn: u16, content: Content) {
+        self.pages[lpn as usize] = content;
+    }
+
+    fn add(&mut self, id: u32, lpn: u16, content: Content) {
+        self.open.get_mut(&id).expect("an open change").push((lpn, content));
     }
 
     /// What a commit or a lone write enters, at its end or in a cut.
     fn enter_writes(&mut self, call: &Call) {
         match call {
-            Call::Commit(id) => self.open.remove(id).into_iter().flatten().for_each(|(lpn, data)| self.enter(lpn, &data)),
-            Call::Lone { lpn, data } => self.enter(*lpn, data),
+            Call::Commit(id) => self.open.remove(id).into_iter().flatten().for_each(|(lpn, content)| self.enter(lpn, content)),
+            Call::Lone { lpn, data } => self.enter(*lpn, Some(data.clone())),
             _ => (),
         }
     }
@@ -37,7 +45,8 @@ impl Book {
         }
         match call {
             Call::Begin(id) => drop(self.open.insert(*id, Vec::new())),
-            Call::Write { id, lpn, data } => self.open.get_mut(id).expect("an open change").push((*lpn, data.clone())),
+            Call::Write { id, lpn, data } => self.add(*id, *lpn, Some(data.clone())),
+            Call::Drop { id, lpn } => self.add(*id, *lpn, None),
             Call::Abort(id) => drop(self.open.remove(id)),
             Call::Recover(_) => self.open.clear(),
             _ => self.enter_writes(call),
@@ -55,21 +64,22 @@ impl Book {
 
 /// Which calls are drawn, and how often one is cut.
 struct Mood {
-    weights: [usize; 9],
+    weights: [usize; 10],
     cut_once_in: usize,
     /// Writes go to one change, until it is full.
     one_change: bool,
 }
 
-//                 begin write lone commit abort read checkpoint reclaim recover
-const MIXED: [usize; 9] = [10, 30, 15, 10, 3, 6, 6, 8, 1];
-const SHORT: [usize; 9] = [18, 40, 4, 30, 2, 3, 8, 8, 0];
-const LONE: [usize; 9] = [2, 3, 60, 2, 1, 4, 9, 9, 0];
-const LONG: [usize; 9] = [3, 120, 2, 1, 0, 2, 14, 6, 0];
-const MANY: [usize; 9] = [60, 30, 2, 4, 4, 2, 4, 4, 0];
-const TIDY: [usize; 9] = [1, 3, 8, 1, 1, 2, 10, 50, 0];
-const NO_CHECKPOINT: [usize; 9] = [2, 6, 30, 2, 1, 2, 1, 50, 0];
-const MOODS: [[usize; 9]; 8] = [MIXED, SHORT, SHORT, LONE, LONG, MANY, TIDY, NO_CHECKPOINT];
+//                 begin write drop lone commit abort read checkpoint reclaim recover
+const MIXED: [usize; 10] = [10, 20, 10, 15, 10, 3, 6, 6, 8, 1];
+const SHORT: [usize; 10] = [18, 30, 10, 4, 30, 2, 3, 8, 8, 0];
+const DROPS: [usize; 10] = [18, 6, 34, 8, 30, 2, 3, 8, 8, 0];
+const LONE: [usize; 10] = [2, 2, 1, 60, 2, 1, 4, 9, 9, 0];
+const LONG: [usize; 10] = [3, 90, 30, 2, 1, 0, 2, 14, 6, 0];
+const MANY: [usize; 10] = [60, 20, 10, 2, 4, 4, 2, 4, 4, 0];
+const TIDY: [usize; 10] = [1, 2, 1, 8, 1, 1, 2, 10, 50, 0];
+const NO_CHECKPOINT: [usize; 10] = [2, 4, 2, 30, 2, 1, 2, 1, 50, 0];
+const MOODS: [[usize; 10]; 9] = [MIXED, SHORT, SHORT, DROPS, LONE, LONG, MANY, TIDY, NO_CHECKPOINT];
 
 /// The cuts made: between calls, and in each command's programs and erases, by whether no, some or all due bits were turned. And the torn
 /// pages met after them: on all pages, and in scan order.
@@ -79,8 +89,10 @@ struct Cuts {
     torn_in_scan_order: usize,
     between: usize,
     without_operation: usize,
-    in_programs: [[usize; 3]; 10],
-    in_erases: [[usize; 3]; 10],
+    in_programs: [[usize; 3]; NAMES.len()],
+    in_erases: [[usize; 3]; NAMES.len()],
+    /// In the program of a page that drops.
+    in_drops: usize,
 }
 
 impl Cuts {
@@ -97,6 +109,7 @@ impl Cuts {
         self.torn_in_scan_order += other.torn_in_scan_order;
         self.between += other.between;
         self.without_operation += other.without_operation;
+        self.in_drops += other.in_drops;
         let here = self.in_programs.iter_mut().chain(&mut self.in_erases).flatten();
         here.zip(other.in_operations()).for_each(|(a, b)| *a += b);
     }
@@ -106,8 +119,10 @@ impl Cuts {
         say(&format!("  {} torn pages after them, each by at least 1; {} of them in scan order", self.torn, self.torn_in_scan_order));
         assert!(self.torn > 10_000 && self.torn_in_scan_order > 1_000, "few torn pages were met");
         say(&format!("  {} between calls, {} in calls without an operation", self.between, self.without_operation));
+        say(&format!("  {} in the program of a page that drops", self.in_drops));
+        assert!(self.in_drops > 200, "few drops were cut");
         for (what, counts, commands) in [
-            ("programs", &self.in_programs, &["write", "lone", "commit", "checkpoint", "reclaim"][..]),
+            ("programs", &self.in_programs, &["write", "drop", "lone", "commit", "checkpoint", "reclaim"][..]),
             ("erases", &self.in_erases, &["checkpoint", "reclaim"][..]),
         ] {
             for command in commands {
@@ -243,6 +258,9 @@ impl Run {
             let before = (self.proved.clone(), self.plain.clone());
             self.both(call);
             let due = due_bits(&before.0.array, &self.proved.array);
+            // byte 524 of a page is its Kind, and 3 that of a drop
+            let drops = due.first().is_some_and(|(at, _)| self.proved.array[at / PAGE * PAGE + 524] == 3);
+            self.cuts.in_drops += drops as usize;
             (self.proved, self.plain) = before;
             programs = due.first().is_some_and(|(at, mask)| self.proved.array[*at] & mask != 0);
             let turned = self.turned(due.len());
@@ -375,15 +393,16 @@ impl Run {
             })
             .unwrap();
         match drawn {
-            1 | 3 | 4 if self.book.open.is_empty() && !self.rng.once_in(6) => Call::Begin(self.new_id()),
+            1 | 2 | 4 | 5 if self.book.open.is_empty() && !self.rng.once_in(6) => Call::Begin(self.new_id()),
             0 => Call::Begin(self.new_id()),
             1 => Call::Write { id: self.open_id(mood), lpn: self.lpn(), data: self.data() },
-            2 => Call::Lone { lpn: self.lpn(), data: self.data() },
-            3 => Call::Commit(self.open_id(mood)),
-            4 => Call::Abort(self.open_id(mood)),
-            5 => Call::Read(self.lpn()),
-            6 => Call::Checkpoint,
-            7 => Call::Reclaim,
+            2 => Call::Drop { id: self.open_id(mood), lpn: self.lpn() },
+            3 => Call::Lone { lpn: self.lpn(), data: self.data() },
+            4 => Call::Commit(self.open_id(mood)),
+            5 => Call::Abort(self.open_id(mood)),
+            6 => Call::Read(self.lpn()),
+            7 => Call::Checkpoint,
+            8 => Call::Reclaim,
             _ => Call::Recover(self.g),
         }
     }
@@ -521,6 +540,9 @@ fn committed_settings_outlive_cuts() {
     }
     for refusal in [1, 5, 6, 7, 8, 9, 10, 11, 12, 14, 15, 16, 17] {
         assert!(met.in_all(refusal) > 0, "refusal {refusal} was never met");
+    }
+    for refusal in [5, 8, 10, 12, 17] {
+        assert!(met.times("drop", refusal) > 0, "a drop was never refused with {refusal}");
     }
     for refusal in [2, 3, 4, 13] {
         assert_eq!(met.in_all(refusal), 0, "refusal {refusal} cannot come in a sequence");

@@ -3,7 +3,7 @@
 mod common;
 
 use bokuhira::{Call, Class, Geometry, Kind, Place, State, Store, Work, Zones, DATA, HOLD, PAGE, STATE, UNMAPPED};
-use common::{compare, formatted, lost_state, put, say, spare, told, whole_page, zone_data, Layer, Met, Rng, LAYERS, NAMES};
+use common::{compare, drop_bytes, formatted, lost_state, put, say, spare, told, whole_page, zone_data, Layer, Met, Rng, LAYERS, NAMES};
 
 /// Worlds and the calls on them, drawn from one seed.
 struct Maker {
@@ -95,7 +95,11 @@ impl Maker {
     /// A spare area of a data page; most pass refusal 4.
     fn spare(&mut self, g: Geometry) -> [u8; 14] {
         let lpn = if self.rng.once_in(200) { g.logical } else { self.below(g.logical as usize) as u16 };
-        let odd = if self.rng.once_in(200) { (self.below(3) as u8, self.below(2) as u8) } else { (0, 0) };
+        let (kind, reserved) = match self.below(200) {
+            0 => (self.below(6) as u8, self.below(2) as u8),
+            1..50 => (3, 0),
+            _ => (0, 0),
+        };
         let id = self.id();
         let (count, version) = match self.below(300) {
             0 => (self.below(4) as u16, 0),
@@ -104,7 +108,7 @@ impl Maker {
             n if n % 5 == 0 => (1 + self.below(4) as u16, self.version()),
             _ => (0, 0),
         };
-        spare(lpn, count, id, version, odd.0, odd.1)
+        spare(lpn, count, id, version, kind, reserved)
     }
 
     /// Any page: whole, torn, erased or any bytes.
@@ -161,7 +165,8 @@ impl Maker {
         let (from, to) = (2 * g.pages as usize, g.blocks as usize * g.pages as usize);
         let lpns = (0..count).map(|_| self.below(g.logical as usize) as u16).collect();
         let ppns = (0..count.saturating_sub(1)).map(|_| (from + self.below(to - from)) as u16).collect();
-        Place { id, lpns, ppns }
+        let drops = (0..count).map(|_| self.rng.once_in(3)).collect();
+        Place { id, lpns, ppns, drops }
     }
 
     /// A state in range, but for the front page of its work under way.
@@ -252,7 +257,7 @@ impl Maker {
 
     /// Any call, its arguments mostly in range.
     fn call(&mut self, world: &Store, g: Geometry) -> Call {
-        let kind = *self.rng.pick(&[0, 1, 2, 2, 3, 3, 3, 3, 4, 4, 4, 4, 5, 5, 6, 7, 8, 8, 8, 9, 9, 9, 9]);
+        let kind = *self.rng.pick(&[0, 1, 2, 2, 3, 3, 3, 4, 4, 5, 5, 5, 5, 6, 6, 7, 8, 9, 9, 9, 10, 10, 10, 10]);
         self.call_of(world, g, kind)
     }
 
@@ -266,11 +271,12 @@ impl Maker {
             1 => Call::Recover(self.near(g)),
             2 => Call::Begin(if self.rng.once_in(2) { self.id() } else { 13 + self.below(1000) as u32 }),
             3 => Call::Write { id, lpn, data: self.rng.bytes(n) },
-            4 => Call::Lone { lpn, data: self.rng.bytes(n) },
-            5 => Call::Commit(id),
-            6 => Call::Abort(id),
-            7 => Call::Read(lpn),
-            8 => Call::Checkpoint,
+            4 => Call::Drop { id, lpn },
+            5 => Call::Lone { lpn, data: self.rng.bytes(n) },
+            6 => Call::Commit(id),
+            7 => Call::Abort(id),
+            8 => Call::Read(lpn),
+            9 => Call::Checkpoint,
             _ => Call::Reclaim,
         }
     }
@@ -335,7 +341,7 @@ impl Maker {
         let half = *self.rng.pick(&[0, 1, 2, 7, 8, 9, 15, 16, 17, 64, 65, 127, 128, 129, 1023, 1024, 1025, 8191, 8192, u16::MAX]);
         let word = *self.rng.pick(&[0, 1, 2, 5, 9, u32::MAX - 3, u32::MAX - 2, u32::MAX - 1, u32::MAX]);
         let i = self.below(8);
-        match self.below(16) {
+        match self.below(17) {
             0 => s.geometry.blocks = half,
             1 => s.geometry.pages = half,
             2 => s.geometry.logical = half,
@@ -350,7 +356,11 @@ impl Maker {
             11 => s.first = byte,
             12 => s.work = Work { kind: *self.rng.pick(&[Kind::Idle, Kind::Format, Kind::Checkpoint, Kind::Reclaim]), stride: half },
             13 => s.places[i].id = word,
-            14 => s.places[i].lpns.push(half),
+            14 => {
+                s.places[i].lpns.push(half);
+                s.places[i].drops.push(byte == 1);
+            }
+            15 => s.places[i].drops.iter_mut().for_each(|d| *d = !*d),
             _ => {
                 let k = self.below(s.places[i].ppns.len().max(1));
                 s.places[i].ppns.get_mut(k).into_iter().for_each(|ppn| *ppn = half);
@@ -371,10 +381,12 @@ impl Maker {
             let from = at + (world.state[at + room] as usize).min(room);
             self.rng.fill(&mut world.state[from..at + room]);
         }
-        for at in (0..8).map(|i| 278 + 261 * i) {
+        for at in (0..8).map(|i| 278 + 325 * i) {
             let count = (world.state[at + 4] as usize).min(64);
             self.rng.fill(&mut world.state[at + 5 + 2 * count..at + 133]);
             self.rng.fill(&mut world.state[at + 133 + 2 * count.saturating_sub(1)..at + 261]);
+            // a write or a drop: another byte there is no state's
+            world.state[at + 261 + count..at + 325].iter_mut().for_each(|d| *d = self.rng.below(2) as u8);
         }
     }
 
@@ -418,7 +430,7 @@ impl Maker {
 
     /// Every command from one world, then a walk from it. Of a format or recover with another geometry, one with buffers that fit it too.
     fn try_world(&mut self, world: Store, g: Geometry) {
-        for kind in 0..10 {
+        for kind in 0..NAMES.len() {
             let call = self.call_of(&world, g, kind);
             self.compare(&mut world.clone(), &call);
             if let Call::Format(other) | Call::Recover(other) = call {
@@ -540,7 +552,7 @@ fn the_bounds_of_the_geometry_with_buffers_that_fit() {
         for call in [Call::Recover(g), Call::Format(g)] {
             assert_eq!(maker.compare(&mut w, &call), 1, "{call:?}");
         }
-        for kind in 2..10 {
+        for kind in 2..NAMES.len() {
             let call = maker.call_of(&w, Geometry::new(8, 8, 1), kind);
             assert_eq!(maker.compare(&mut w, &call), 1, "{call:?} on a state of {g:?}");
         }
@@ -548,7 +560,7 @@ fn the_bounds_of_the_geometry_with_buffers_that_fit() {
 }
 
 /// After power-up anything stands in the state's bytes. Recover takes any of them and gives the same, on both layers; so does format, but
-/// for bytes that say a format of this geometry is under way. The other eight commands refuse those that encode no state.
+/// for bytes that say a format of this geometry is under way. The other commands refuse those that encode no state.
 #[test]
 fn any_state_will_do_at_power_up() {
     let g = Geometry::new(8, 8, 16);
@@ -574,7 +586,7 @@ fn any_state_will_do_at_power_up() {
             let mut w = dark.clone();
             assert_eq!(layer.call(&mut w, &Call::Format(g)), 255);
             assert!(w == begun, "{layer:?}: a format's first stride that hangs on the state: {}", told(&dark));
-            for kind in (2..10).filter(|_| State::decode(&dark.state).is_none()) {
+            for kind in (2..NAMES.len()).filter(|_| State::decode(&dark.state).is_none()) {
                 let call = maker.call_of(&dark, g, kind);
                 let mut w = dark.clone();
                 assert_eq!(layer.call(&mut w, &call), 1, "{layer:?}: {call:?} on bytes that encode no state");
@@ -594,6 +606,42 @@ fn any_state_will_do_at_power_up() {
             assert_eq!(layer.call(&mut w, &Call::Format(g)), answer, "{layer:?}: a format with {stride} strides done");
             let next = if answer == 1 { stride } else { stride + 1 };
             assert_eq!(State::decode(&w.state).map(|s| s.work.stride), Some(next), "{layer:?}");
+        }
+    }
+}
+
+/// Of each page that a place has room for, whether it is a drop is a byte, 0 or 1. With any other in any of the 8 × 64, past a count too, the
+/// bytes encode no state: every command answers 1, but for recover, and for format, which then begins anew.
+#[test]
+fn a_page_is_a_write_or_a_drop() {
+    let g = Geometry::new(8, 8, 16);
+    let mut rng = Rng::new(261);
+    let mut maker = Maker::new(325);
+    let mut live = formatted(g);
+    for call in [Call::Begin(5), Call::Drop { id: 5, lpn: 3 }, Call::Write { id: 5, lpn: 4, data: vec![7; DATA] }] {
+        assert_eq!(Layer::Proved.call(&mut live, &call), 0);
+    }
+    assert_eq!(drop_bytes(&mut live.state).map(|d| *d as usize).sum::<usize>(), 1, "one page of the place is a drop");
+    let mut recovered = live.clone();
+    assert_eq!(Layer::Proved.call(&mut recovered, &Call::Recover(g)), 0);
+    let mut begun = Store { state: vec![0; STATE], ..live.clone() };
+    assert_eq!(Layer::Proved.call(&mut begun, &Call::Format(g)), 255);
+    for n in 0..8 * 64 {
+        let mut odd = live.clone();
+        if n % 2 == 0 {
+            // three strides of a format done: not gone on with where the bytes are no state
+            (odd.state[275], odd.state[276]) = (1, 3);
+        }
+        *drop_bytes(&mut odd.state).nth(n).expect("a page") = 2 + rng.below(254) as u8;
+        assert_eq!(State::decode(&odd.state), None, "byte {n}");
+        for kind in 2..NAMES.len() {
+            let call = maker.call_of(&odd, g, kind);
+            assert_eq!(maker.compare(&mut odd.clone(), &call), 1, "{call:?}, byte {n}");
+        }
+        for (call, answer, due) in [(Call::Recover(g), 0, &recovered), (Call::Format(g), 255, &begun)] {
+            let mut w = odd.clone();
+            assert_eq!(maker.compare(&mut w, &call), answer, "{call:?}, byte {n}");
+            assert!(w == *due, "{call:?} that hangs on byte {n}: {}", told(&w));
         }
     }
 }

@@ -41,7 +41,8 @@ fn the_41st_page_goes_the_42nd_is_too_long() {
         }
         let full = store.clone();
         assert_eq!(write(layer, &mut store, 5, 41, "one more"), 10, "{layer:?}, {g:?}");
-        assert!(store == full, "{layer:?}, {g:?}: a refused write changed something");
+        assert_eq!(layer.call(&mut store, &Call::Drop { id: 5, lpn: 41 }), 10, "{layer:?}, {g:?}");
+        assert!(store == full, "{layer:?}, {g:?}: a refused write or drop changed something");
         assert_eq!(layer.call(&mut store, &Call::Commit(5)), 0);
         let mut dark = Store { array: store.array.clone(), ..Store::blank(g) };
         assert_eq!(layer.call(&mut dark, &Call::Recover(g)), 0);
@@ -60,11 +61,11 @@ fn a_place_may_have_more() {
     for (layer, n) in LAYERS.iter().flat_map(|l| (1..=ROOM + 1).map(|n| (*l, n))) {
         let mut store = formatted(g);
         let mut state = State::decode(&store.state).expect("a state");
-        state.places[0] = Place { id: 5, lpns: vec![3; n], ppns: vec![17; n - 1] };
+        state.places[0] = Place { id: 5, lpns: vec![3; n], ppns: vec![17; n - 1], drops: vec![false; n] };
         store.state = state.encode();
         store.hold[..DATA].copy_from_slice(&page("held"));
         let before = store.clone();
-        // of a write, and of a commit or an abort
+        // of a write or a drop, and of a commit or an abort
         let (grows, closes) = match n {
             1..41 => (0, 0),
             41..=ROOM => (10, 0),
@@ -74,6 +75,11 @@ fn a_place_may_have_more() {
         let answer = write(layer, &mut store, 5, 4, "one more");
         assert_eq!(answer, grows, "{layer:?}: a write to a place with {n} pages");
         assert!(answer == 0 || store == before, "{layer:?}: a refused write changed something, {n} pages");
+
+        let mut store = before.clone();
+        let answer = layer.call(&mut store, &Call::Drop { id: 5, lpn: 4 });
+        assert_eq!(answer, grows, "{layer:?}: a drop to a place with {n} pages");
+        assert!(answer == 0 || store == before, "{layer:?}: a refused drop changed something, {n} pages");
 
         let mut store = before.clone();
         assert_eq!(layer.call(&mut store, &Call::Abort(5)), closes, "{layer:?}: an abort with {n} pages");

@@ -63,6 +63,7 @@ fn call_of(words: &[&str]) -> Call {
         "recover" => Call::Recover(g()),
         "begin" => Call::Begin(number(words[1])),
         "write" => Call::Write { id: number(words[1]), lpn: number(words[2]), data: data_of(words[3]) },
+        "drop" => Call::Drop { id: number(words[1]), lpn: number(words[2]) },
         "lone" => Call::Lone { lpn: number(words[1]), data: data_of(words[2]) },
         "commit" => Call::Commit(number(words[1])),
         "abort" => Call::Abort(number(words[1])),
@@ -88,8 +89,9 @@ fn state_words(bytes: &[u8]) -> String {
         if p.is_free() {
             return "-".to_string();
         }
-        let programmed: Vec<String> = p.lpns.iter().zip(&p.ppns).map(|(lpn, ppn)| format!("{lpn}@{ppn}")).collect();
-        format!("{}[{}]{}", p.id, programmed.join(","), p.lpns.last().map_or(String::new(), |held| held.to_string()))
+        let written: Vec<String> = p.lpns.iter().zip(&p.drops).map(|(lpn, drop)| format!("{}{lpn}", if *drop { "~" } else { "" })).collect();
+        let programmed: Vec<String> = written.iter().zip(&p.ppns).map(|(lpn, ppn)| format!("{lpn}@{ppn}")).collect();
+        format!("{}[{}]{}", p.id, programmed.join(","), written.last().map_or("", String::as_str))
     };
     let places: Vec<String> = s.places.iter().map(place).collect();
     let kind = KINDS.iter().find(|(k, _)| *k == s.work.kind).unwrap().1;
@@ -118,8 +120,10 @@ fn state_of(words: &[&str]) -> Vec<u8> {
         let Some((id, rest)) = word.trim_start_matches("places=").split_once('[') else { return Place::default() };
         let (programmed, held) = rest.split_once(']').unwrap();
         let pairs: Vec<(&str, &str)> = programmed.split(',').filter_map(|x| x.split_once('@')).collect();
-        let lpns = pairs.iter().map(|(lpn, _)| *lpn).chain(Some(held).filter(|h| !h.is_empty())).map(number).collect();
-        Place { id: number(id), lpns, ppns: pairs.iter().map(|(_, ppn)| number(ppn)).collect() }
+        let written: Vec<&str> = pairs.iter().map(|(lpn, _)| *lpn).chain(Some(held).filter(|h| !h.is_empty())).collect();
+        let lpns = written.iter().map(|lpn| number(lpn.trim_start_matches('~'))).collect();
+        let drops = written.iter().map(|lpn| lpn.starts_with('~')).collect();
+        Place { id: number(id), lpns, ppns: pairs.iter().map(|(_, ppn)| number(ppn)).collect(), drops }
     };
     let state = State {
         geometry: Geometry::new(number(words[0]), number(words[1]), number(words[2])),
@@ -348,7 +352,19 @@ fn a_trace_that_is_cut_short_is_noticed() {
 #[test]
 fn a_state_of_another_length_is_a_bad_frame() {
     let g = Geometry::new(8, 8, 16);
-    let calls = ["format 8 8 16", "recover 8 8 16", "begin 5", "write 5 0 1", "lone 0 1", "commit 5", "abort 5", "read 0", "checkpoint", "reclaim"];
+    let calls = [
+        "format 8 8 16",
+        "recover 8 8 16",
+        "begin 5",
+        "write 5 0 1",
+        "drop 5 0",
+        "lone 0 1",
+        "commit 5",
+        "abort 5",
+        "read 0",
+        "checkpoint",
+        "reclaim",
+    ];
     for layer in LAYERS {
         let mut live = formatted(g);
         assert_eq!(layer.call(&mut live, &call_of(&["lone", "0", "1"])), 0);

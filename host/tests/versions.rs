@@ -1,6 +1,6 @@
-//! Recover of arrays that no sequence makes: the marks' versions in any order, identifiers that differ in one byte or leave one remainder,
-//! versions repeated, second marks, counts right and wrong, any floor. The two layers, the program that rescans and document 01's words
-//! (docs/PAPERS.md), taken one after the other, must agree.
+//! Recover of arrays that no sequence makes: writes and drops of one page by many changes, the marks' versions in any order, identifiers that
+//! differ in one byte or leave one remainder, versions repeated, second marks, counts right and wrong, any floor. The two layers, the program
+//! that rescans and document 01's words (docs/PAPERS.md), taken one after the other, must agree.
 mod common;
 
 use bokuhira::{Call, Geometry, State, Store, Zones, DATA, HOLD, PAGE, UNMAPPED};
@@ -29,12 +29,15 @@ const SPOILT: [&str; 5] =
     ["a mark has an earlier one's version", "a mark has a later one's version", "two marks of a change", "two equal marks", BAD];
 const BAD: &str = "a page bad by itself";
 // What recover meets where it is done.
-const MET: [&str; 5] = [WRONG, OLD, LATER, EARLIER, TORN];
+const MET: [&str; 8] = [WRONG, OLD, LATER, EARLIER, TORN, DROPPED, LONE_DROP, WRITTEN_AGAIN];
 const WRONG: &str = "a wrong count";
 const OLD: &str = "a version not above the floor";
 const LATER: &str = "a later page of its change holds";
 const EARLIER: &str = "an earlier page of a later change holds";
 const TORN: &str = "a torn page like a mark";
+const DROPPED: &str = "a mapped page is dropped";
+const LONE_DROP: &str = "a drop that is a transaction by itself";
+const WRITTEN_AGAIN: &str = "a dropped page is written again";
 // Why a mark is bad, by the place of the other.
 const REPEATED: [&str; 3] = ["a version repeated side by side", "a version repeated further on", "a version repeated in the other zone"];
 const SECOND: [&str; 3] = ["a second mark side by side", "a second mark further on", "a second mark in the other zone"];
@@ -47,6 +50,8 @@ struct Page {
     count: u16,
     id: u32,
     version: u32,
+    /// 0, or 3 for a drop, or a kind that is bad.
+    kind: u8,
     torn: bool,
 }
 
@@ -66,7 +71,13 @@ impl Case {
     fn bad(&self, whole: &[Page]) -> Option<&'static str> {
         let available = |p: &Page| self.zones.available.contains(&((p.ppn / self.g.pages as usize) as u8));
         for (i, p) in whole.iter().enumerate() {
-            if p.lpn >= self.g.logical || (p.count == 0) != (p.version == 0) || p.id > LAST || p.version > LAST || p.id == 0 && p.count != 1 {
+            if ![0, 3].contains(&p.kind)
+                || p.lpn >= self.g.logical
+                || (p.count == 0) != (p.version == 0)
+                || p.id > LAST
+                || p.version > LAST
+                || p.id == 0 && p.count != 1
+            {
                 return Some(BAD);
             }
             let clash = |o: &Page| o.count != 0 && (o.version == p.version || o.id == p.id && p.id != 0);
@@ -93,7 +104,14 @@ impl Case {
             }
             for i in of(m) {
                 let lpn = whole[i].lpn as usize;
-                map[lpn] = whole[i].ppn as u16;
+                let before = map[lpn];
+                map[lpn] = if whole[i].kind == 3 { UNMAPPED } else { whole[i].ppn as u16 };
+                match (before, map[lpn]) {
+                    (UNMAPPED, UNMAPPED) => false,
+                    (_, UNMAPPED) => self.kinds.insert(if whole[i].id == 0 { LONE_DROP } else { DROPPED }),
+                    (UNMAPPED, _) if entered[lpn].is_some() => self.kinds.insert(WRITTEN_AGAIN),
+                    _ => false,
+                };
                 match entered[lpn].replace(i) {
                     Some(before) if before > i => self.kinds.insert(EARLIER),
                     Some(before) if whole[before].id == whole[i].id && whole[i].id != 0 => self.kinds.insert(LATER),
@@ -179,7 +197,7 @@ impl Maker {
         let mut open = vec![(0, 0); 1 + self.below(8)];
         let longest = *self.rng.pick(&[1, 3, 8, 64, order.len()]);
         // so many of 20 pages
-        let [lone, erased, torn] = [[0, 1, 10, 20], [0, 0, 1, 10], [0, 0, 1, 5]].map(|rates| *self.rng.pick(&rates));
+        let [lone, erased, torn, drops] = [[0, 1, 10, 20], [0, 0, 1, 10], [0, 0, 1, 5], [0, 2, 5, 10]].map(|rates| *self.rng.pick(&rates));
         for ppn in order {
             if self.below(20) < erased {
                 continue;
@@ -194,7 +212,8 @@ impl Maker {
                 id = open[change].0;
             }
             let lpn = self.below(case.g.logical as usize) as u16;
-            case.pages.push(Page { ppn, lpn, count: 0, id, version: 0, torn: self.below(20) < torn });
+            let kind = if self.below(20) < drops { 3 } else { 0 };
+            case.pages.push(Page { ppn, lpn, count: 0, id, version: 0, kind, torn: self.below(20) < torn });
         }
     }
 
@@ -270,8 +289,9 @@ impl Maker {
             3 => (pages[later].id, pages[later].version) = (pages[earlier].id, pages[earlier].version),
             _ => {
                 let p = &mut pages[later];
-                match self.below(6) {
+                match self.below(7) {
                     0 => p.lpn = case.g.logical,
+                    6 => p.kind = *self.rng.pick(&[1, 2, 4, 7, 255]),
                     1 => p.id = LAST + 1,
                     2 => p.version = LAST + 1,
                     3 => (p.count, p.version) = (1, 0),
@@ -297,7 +317,7 @@ impl Maker {
         let g = case.g;
         let mut array = checkpointed(g, &case.map, case.floor, &case.zones);
         for p in &case.pages {
-            let mut page = whole_page(&[self.rng.next() as u8; DATA], &spare(p.lpn, p.count, p.id, p.version, 0, 0));
+            let mut page = whole_page(&[self.rng.next() as u8; DATA], &spare(p.lpn, p.count, p.id, p.version, p.kind, 0));
             if p.torn {
                 page[self.below(DATA)] ^= 1 << self.below(8);
             }
@@ -395,7 +415,7 @@ fn arrays_at_the_limits_of_the_geometry() {
         case.zones = Zones { available: vec![9, 2, 5], unavailable: (2..128).filter(|b| ![9, 2, 5].contains(b)).collect(), free: vec![], pointer: 2 };
         for (i, ppn) in (0..N).zip(scan_order(large, &case.zones)) {
             let (count, id, version) = page(i);
-            case.pages.push(Page { ppn, lpn: maker.below(1024) as u16, count, id, version, torn: false });
+            case.pages.push(Page { ppn, lpn: maker.below(1024) as u16, count, id, version, kind: 3 * (i % 2) as u8, torn: false });
         }
         assert_eq!(maker.check(case), answer);
     }

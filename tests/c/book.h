@@ -9,10 +9,12 @@
 
 #include "bokuhira.h"
 
-enum { FORMAT, RECOVER, BEGIN, WRITE, LONE, COMMIT, ABORT, READ, CHECKPOINT, RECLAIM, NONE };
-static const char *const names[] = { "format", "recover", "begin", "write", "lone write", "commit", "abort", "read", "checkpoint", "reclaim" };
+enum { FORMAT, RECOVER, BEGIN, WRITE, DROP, LONE, COMMIT, ABORT, READ, CHECKPOINT, RECLAIM, NONE };
+static const char *const names[] = { "format", "recover", "begin",      "write",   "drop", "lone write",
+                                     "commit", "abort",   "read",       "checkpoint", "reclaim" };
 
-/* A call and its answer. `data` is a number that stands for the 512 bytes; `held`, of a read, whether it gave what the book has. */
+/* A call and its answer. `data` is a number that stands for the 512 bytes, 0 of a drop; `held`, of a read, whether it gave what the book
+   has. */
 struct call {
     uint8_t command, answer, held;
     uint16_t lpn;
@@ -21,11 +23,11 @@ struct call {
 };
 
 /* Commands about a logical page, about an open change, and those that enter pages. */
-static inline int has_page(int command) { return command == WRITE || command == LONE || command == READ; }
-static inline int of_open(int command) { return command == WRITE || command == COMMIT || command == ABORT; }
+static inline int has_page(int command) { return command == WRITE || command == DROP || command == LONE || command == READ; }
+static inline int of_open(int command) { return command == WRITE || command == DROP || command == COMMIT || command == ABORT; }
 static inline int enters(int command) { return command == LONE || command == COMMIT; }
 
-/* An open change: its writes in order. */
+/* An open change: its writes in order. A drop is one that leaves its page as never written. */
 struct change {
     uint32_t id;
     unsigned count;
@@ -100,7 +102,8 @@ static inline int may_answer(struct book *b, const struct call *c)
         return a == BOKUHIRA_NOT_BEGUN;
     switch (c->command) {
     case BEGIN: return a == BOKUHIRA_IDENTIFIER_LIVE || (!change && (b->changes == BOKUHIRA_PLACES ? a == BOKUHIRA_PLACES_FULL : done));
-    case WRITE: return change->count == BOKUHIRA_CHANGE_PAGES ? a == BOKUHIRA_TOO_LONG : change->count == 0 ? done : programs;
+    case WRITE:
+    case DROP: return change->count == BOKUHIRA_CHANGE_PAGES ? a == BOKUHIRA_TOO_LONG : change->count == 0 ? done : programs;
     case LONE: return programs;
     case COMMIT: return change->count == 0 ? done : programs;
     case ABORT: return done;
@@ -135,6 +138,7 @@ static inline void answered(struct book *b, const struct call *c)
         b->open[b->changes++] = (struct change){ .id = c->id };
         break;
     case WRITE:
+    case DROP:
         change->writes[change->count].lpn = c->lpn;
         change->writes[change->count++].data = c->data;
         break;

@@ -11,6 +11,7 @@ void ignore(uint8_t *array, uint16_t *map, uint8_t *hold, uint8_t *state, size_t
     bokuhira_recover(LENT, 8, 8, 16);
     bokuhira_begin(LENT, 1);
     bokuhira_write(LENT, hold, 0, 1, 0);
+    bokuhira_drop(LENT, 1, 0);
     bokuhira_lone(LENT, hold, 0, 0);
     bokuhira_commit(LENT, 1);
     bokuhira_abort(LENT, 1);

@@ -45,6 +45,24 @@ static const uint8_t *place(const uint8_t *in, uint32_t id)
     return at;
 }
 
+/* Whether so many bytes all read erased. */
+static int reads_erased(const uint8_t *at, size_t n) { return at[0] == 0xFF && memcmp(at, at + 1, n - 1) == 0; }
+
+/* The first clean page before the call: of the first available block that has one. */
+static int first_clean(void)
+{
+    int i, q;
+
+    for (i = 0; i < old_state[BOKUHIRA_AT_AVAILABLE_COUNT]; i++) {
+        const int block = old_state[BOKUHIRA_AT_AVAILABLE + i];
+        for (q = PAGES; q > 0 && reads_erased(old_flash + (block * PAGES + q - 1) * BOKUHIRA_PAGE, BOKUHIRA_PAGE); q--)
+            ;
+        if (q < PAGES)
+            return block * PAGES + q;
+    }
+    return -1;
+}
+
 /* By the table, one line of it for each line here. */
 static struct operation tells(const struct call *c)
 {
@@ -56,10 +74,10 @@ static struct operation tells(const struct call *c)
 
     if (c->command == LONE && done)
         o.page = map[c->lpn];
-    if (c->command == WRITE && done && (count = (at = place(state, c->id))[BOKUHIRA_PLACE_COUNT]) >= 2)
+    if ((c->command == WRITE || c->command == DROP) && done && (count = (at = place(state, c->id))[BOKUHIRA_PLACE_COUNT]) >= 2)
         o.page = half(at + BOKUHIRA_PLACE_PAGES + 2 * (count - 2));
     if (c->command == COMMIT && done && (count = (at = place(old_state, c->id))[BOKUHIRA_PLACE_COUNT]) >= 1)
-        o.page = map[half(at + BOKUHIRA_PLACE_LOGICAL + 2 * (count - 1))];
+        o.page = at[BOKUHIRA_PLACE_DROPS + count - 1] ? first_clean() : map[half(at + BOKUHIRA_PLACE_LOGICAL + 2 * (count - 1))];
     if (c->command == CHECKPOINT && state[BOKUHIRA_AT_FRONT] != old_state[BOKUHIRA_AT_FRONT])
         o.block = state[BOKUHIRA_AT_FRONT];
     else if (c->command == CHECKPOINT && more)
@@ -80,9 +98,6 @@ static struct operation tells(const struct call *c)
         o.page = s - BLOCKS;
     return o;
 }
-
-/* Whether so many bytes all read erased. */
-static int reads_erased(const uint8_t *at, size_t n) { return at[0] == 0xFF && memcmp(at, at + 1, n - 1) == 0; }
 
 /* By comparison: pages of one block that became erased, or one other page. */
 static struct operation finds(int command)
@@ -130,7 +145,7 @@ static int open_changes(uint32_t *ids)
 /* Mostly the command under way; else any, a format seldom. */
 static int drawn(void)
 {
-    static const uint8_t often[] = { BEGIN, WRITE, WRITE, WRITE, WRITE, LONE, LONE, COMMIT, ABORT, READ, CHECKPOINT, RECLAIM, RECLAIM };
+    static const uint8_t often[] = { BEGIN, WRITE, WRITE, WRITE, DROP, LONE, LONE, COMMIT, ABORT, READ, CHECKPOINT, RECLAIM, RECLAIM };
     static const uint8_t of_kind[] = { NONE, FORMAT, CHECKPOINT, RECLAIM };
     uint8_t kind = state[BOKUHIRA_AT_KIND];
 
@@ -150,6 +165,7 @@ static uint8_t carried_out(const struct call *c)
     case RECOVER: return bokuhira_recover(LENT, BLOCKS, PAGES, LOGICAL);
     case BEGIN: return bokuhira_begin(LENT, c->id);
     case WRITE: return bokuhira_write(LENT, data, sizeof data, c->id, c->lpn);
+    case DROP: return bokuhira_drop(LENT, c->id, c->lpn);
     case LONE: return bokuhira_lone(LENT, data, sizeof data, c->lpn);
     case COMMIT: return bokuhira_commit(LENT, c->id);
     case ABORT: return bokuhira_abort(LENT, c->id);

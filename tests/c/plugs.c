@@ -130,6 +130,7 @@ static uint8_t make(struct call *c)
     case RECOVER: return recover();
     case BEGIN: return bokuhira_begin(LENT, c->id);
     case WRITE: return bokuhira_write(LENT, data_of(c->data), BOKUHIRA_DATA, c->id, c->lpn);
+    case DROP: return bokuhira_drop(LENT, c->id, c->lpn);
     case LONE: return bokuhira_lone(LENT, data_of(c->data), BOKUHIRA_DATA, c->lpn);
     case COMMIT: return bokuhira_commit(LENT, c->id);
     case ABORT: return bokuhira_abort(LENT, c->id);
@@ -141,14 +142,15 @@ static uint8_t make(struct call *c)
 
 /* ---- the child */
 
-static const uint8_t commands[] = { BEGIN, WRITE, LONE, COMMIT, ABORT, READ, CHECKPOINT, RECLAIM, RECOVER };
+static const uint8_t commands[] = { BEGIN, WRITE, DROP, LONE, COMMIT, ABORT, READ, CHECKPOINT, RECLAIM, RECOVER };
 enum { DRAWN = sizeof commands };
-static const unsigned moods[][DRAWN] = { { 10, 30, 15, 10, 3, 6, 3, 3, 1 },   /* mixed */
-                                         { 18, 40, 4, 30, 2, 3, 3, 3, 0 },    /* short changes */
-                                         { 2, 3, 60, 2, 1, 4, 2, 2, 0 },      /* lone writes */
-                                         { 3, 120, 2, 1, 0, 2, 6, 3, 0 },     /* long changes */
-                                         { 60, 30, 2, 4, 4, 2, 4, 4, 0 },     /* many changes */
-                                         { 1, 3, 8, 1, 1, 2, 10, 50, 0 } };   /* much to reclaim */
+static const unsigned moods[][DRAWN] = { { 10, 22, 8, 15, 10, 3, 6, 3, 3, 1 },   /* mixed */
+                                         { 18, 30, 10, 4, 30, 2, 3, 3, 3, 0 },   /* short changes */
+                                         { 18, 10, 30, 10, 30, 2, 3, 3, 3, 0 },  /* mostly drops */
+                                         { 2, 3, 1, 60, 2, 1, 4, 2, 2, 0 },      /* lone writes */
+                                         { 3, 100, 20, 2, 1, 0, 2, 6, 3, 0 },    /* long changes */
+                                         { 60, 24, 6, 2, 4, 4, 2, 4, 4, 0 },     /* many changes */
+                                         { 1, 2, 1, 8, 1, 1, 2, 10, 50, 0 } };   /* much to reclaim */
 enum { MOODS = sizeof moods / sizeof *moods };
 
 /* When a child is killed: at any moment, some steps after a first store, or before an answer. */
@@ -184,7 +186,7 @@ static struct call draw(uint8_t command)
         c.id = book.open[below(book.changes)].id;
     else if (of_open(command) || command == BEGIN)
         c.id = 1 + below(once_in(2) ? 40 : 0xFFFFFFFE);
-    c.data = next(&rng) | (uint64_t)1 << 63;
+    c.data = command == DROP ? 0 : next(&rng) | (uint64_t)1 << 63;
     return c;
 }
 

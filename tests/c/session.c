@@ -63,6 +63,7 @@ static int reads(uint16_t lpn, uint8_t byte)
 
 static uint8_t begin(uint32_t id) { return bokuhira_begin(LENT, id); }
 static uint8_t put(uint32_t id, uint16_t lpn, uint8_t byte) { return bokuhira_write(LENT, filled(byte), BOKUHIRA_DATA, id, lpn); }
+static uint8_t drop(uint32_t id, uint16_t lpn) { return bokuhira_drop(LENT, id, lpn); }
 static uint8_t lone(uint16_t lpn, uint8_t byte) { return bokuhira_lone(LENT, filled(byte), BOKUHIRA_DATA, lpn); }
 static uint8_t commit(uint32_t id) { return bokuhira_commit(LENT, id); }
 static uint8_t recover(void) { return bokuhira_recover(LENT, BLOCKS, PAGES, LOGICAL); }
@@ -101,7 +102,8 @@ static int classed(const uint8_t *page, size_t page_len, uint8_t answer, int32_t
     return same && memcmp(&before, &d, sizeof d) == 0;
 }
 
-/* Function n of the ten that take a device, the two that take any state first, on these state bytes. */
+/* Function n of those that take a device, the two that take any state first, on these state bytes. */
+enum { FUNCTIONS = 11 };
 static uint8_t any(int n, uint8_t *state, size_t state_len)
 {
 #define ON d.array, sizeof d.array, d.map, LOGICAL, d.hold, sizeof d.hold, state, state_len
@@ -110,11 +112,12 @@ static uint8_t any(int n, uint8_t *state, size_t state_len)
     case 1: return bokuhira_recover(ON, BLOCKS, PAGES, LOGICAL);
     case 2: return bokuhira_begin(ON, 1);
     case 3: return bokuhira_write(ON, data, sizeof data, 1, 0);
-    case 4: return bokuhira_lone(ON, data, sizeof data, 0);
-    case 5: return bokuhira_commit(ON, 1);
-    case 6: return bokuhira_abort(ON, 1);
-    case 7: return bokuhira_read(ON, &d.at, 0);
-    case 8: return bokuhira_checkpoint(ON);
+    case 4: return bokuhira_drop(ON, 1, 0);
+    case 5: return bokuhira_lone(ON, data, sizeof data, 0);
+    case 6: return bokuhira_commit(ON, 1);
+    case 7: return bokuhira_abort(ON, 1);
+    case 8: return bokuhira_read(ON, &d.at, 0);
+    case 9: return bokuhira_checkpoint(ON);
     default: return bokuhira_reclaim(ON);
     }
 #undef ON
@@ -133,7 +136,7 @@ static void no_state(size_t at, uint8_t byte)
     memcpy(&fresh, &d, sizeof d);
     memcpy(&d, &old, sizeof d);
     d.state[at] = byte;
-    for (n = 2; n < 10; n++)
+    for (n = 2; n < FUNCTIONS; n++)
         REFUSED(BOKUHIRA_BAD_FRAME, any(n, d.state, sizeof d.state));
     REFUSED(BOKUHIRA_NO_CHECKPOINT, recover());
     CHECK(any(0, d.state, sizeof d.state) == BOKUHIRA_MORE);
@@ -147,7 +150,7 @@ static void no_length(size_t state_len)
     static uint8_t state[BOKUHIRA_STATE + 1], zero[BOKUHIRA_STATE + 1];
     int n;
 
-    for (n = 0; n < 10; n++)
+    for (n = 0; n < FUNCTIONS; n++)
         REFUSED(BOKUHIRA_BAD_FRAME, any(n, state, state_len));
     CHECK(memcmp(state, zero, sizeof state) == 0);
 }
@@ -219,6 +222,8 @@ static void *session(void *nothing)
     no_state(BOKUHIRA_AT_KIND, 255);
     no_state(BOKUHIRA_AT_STRIDE, 1);
     no_state(BOKUHIRA_AT_STRIDE + 1, 1);
+    for (i = 0; i < BOKUHIRA_PLACES * 64; i++)
+        no_state(place + (size_t)(i / 64) * BOKUHIRA_PLACE + BOKUHIRA_PLACE_DROPS + (size_t)(i % 64), (uint8_t)(2 + i % 254));
     no_length(0);
     no_length(BOKUHIRA_STATE - 1);
     no_length(BOKUHIRA_STATE + 1);
@@ -268,6 +273,27 @@ static void *session(void *nothing)
     CHECK(bokuhira_abort(LENT, 8) == BOKUHIRA_DONE);
     REFUSED(BOKUHIRA_NOT_BEGUN, commit(8));
     CHECK(reads(3, 0x33));
+
+    /* a port group is deleted: its page is dropped, with a page that is written; another page is dropped before it is ever written */
+    REFUSED(BOKUHIRA_NOT_BEGUN, drop(14, 5));
+    CHECK(begin(14) == BOKUHIRA_DONE && drop(14, 5) == BOKUHIRA_DONE);
+    REFUSED(BOKUHIRA_BAD_LOGICAL_PAGE, drop(14, LOGICAL));
+    CHECK(d.state[place + BOKUHIRA_PLACE_COUNT] == 1 && d.state[place + BOKUHIRA_PLACE_DROPS] == 1);
+    CHECK(memcmp(d.hold, filled(0xFF), BOKUHIRA_DATA) == 0 && reads(5, 0x55));
+    CHECK(put(14, 4, 0x45) == BOKUHIRA_DONE && drop(14, 9) == BOKUHIRA_DONE);
+    page = field(place + BOKUHIRA_PLACE_PAGES, 2) * BOKUHIRA_PAGE;
+    CHECK(memcmp(d.array + page, filled(0xFF), BOKUHIRA_DATA) == 0 && d.array[page + 512] == 5 && d.array[page + 524] == 3);
+    CHECK(memcmp(d.state + place + BOKUHIRA_PLACE_DROPS, "\1\0\1\0", 4) == 0 && reads(4, 0x44));
+    old = d;
+    CHECK(commit(14) == BOKUHIRA_DONE && reads(4, 0x45) && d.map[5] == BOKUHIRA_UNMAPPED);
+    REFUSED(BOKUHIRA_NEVER_WRITTEN, bokuhira_read(LENT, &d.at, 5));
+    REFUSED(BOKUHIRA_NEVER_WRITTEN, bokuhira_read(LENT, &d.at, 9));
+    after = d;
+    cut();
+    CHECK(recover() == BOKUHIRA_DONE && reads(4, 0x45) && memcmp(d.map, after.map, sizeof d.map) == 0);
+    memcpy(d.array, old.array, sizeof d.array);
+    cut();
+    CHECK(recover() == BOKUHIRA_DONE && reads(4, 0x44) && reads(5, 0x55) && memcmp(d.map, old.map, sizeof d.map) == 0);
 
     /* a checkpoint of one map page and the zone page; a read is never busy */
     CHECK(bokuhira_checkpoint(LENT) == BOKUHIRA_MORE);
@@ -359,13 +385,18 @@ static void *session(void *nothing)
     old = d;
     CHECK(bokuhira_reclaim(LENT) == BOKUHIRA_MORE);
 
-    /* the longest change: from 41 pages on no write goes; a place may have up to 64, which a commit marks and an abort forgets */
+    /* the longest change: from 41 pages on no write or drop goes; a place may have up to 64, which a commit marks and an abort forgets */
     for (n = BOKUHIRA_CHANGE_PAGES - 1; n <= 65; n++) {
         opened(13, n);
         if (n == BOKUHIRA_CHANGE_PAGES - 1)
             CHECK(put(13, 4, 0x46) == BOKUHIRA_DONE && d.state[place + BOKUHIRA_PLACE_COUNT] == BOKUHIRA_CHANGE_PAGES);
         else
             REFUSED(n > 64 ? BOKUHIRA_BAD_FRAME : BOKUHIRA_TOO_LONG, put(13, 4, 0x46));
+        opened(13, n);
+        if (n == BOKUHIRA_CHANGE_PAGES - 1)
+            CHECK(drop(13, 4) == BOKUHIRA_DONE && d.state[place + BOKUHIRA_PLACE_COUNT] == BOKUHIRA_CHANGE_PAGES);
+        else
+            REFUSED(n > 64 ? BOKUHIRA_BAD_FRAME : BOKUHIRA_TOO_LONG, drop(13, 4));
         opened(13, n);
         CHECK(bokuhira_abort(LENT, 13) == (n > 64 ? BOKUHIRA_BAD_FRAME : BOKUHIRA_DONE));
         opened(13, n);

@@ -10,6 +10,7 @@ use lib.ListN.{length, replicate}
 use lib.Dec.{eqb}
 use lib.IntN.{ℤ, pos}
 use lib.Signed.{_≤ℤ_}
+use Rattle.model.specs.Lists.{all, part}
 use Rattle.model.specs.Page.{classOf, pageAt}
 use Rattle.model.specs.Geometry.{geometryOk}
 use Rattle.model.specs.Frame.{freshState}
@@ -20,7 +21,7 @@ use Rattle.model.specs.Sequence.{Phase, live, dark, arrayOf, Run}
 use Rattle.model.specs.declared.Geometry.{Geometry}
 use Rattle.model.specs.declared.Class.{Class}
 use Rattle.model.specs.declared.Class.the-variants.{Erased, Whole, Torn}
-use Rattle.encoding.specs.Encoding.{workFrom, stateFrom, workCoded, encodes}
+use Rattle.encoding.specs.Encoding.{workFrom, stateFrom, workCoded, dropsCoded, placesCoded, encodes}
 use Rattle.bokuhira.specs.Calls.{startFrom, classedOf, classCalled}
 use Rattle.sequence.specs.Start.{some-formatted}
 use Rattle.sequence.specs.Claims.{ReadsRight, reads-right, own-torn}
@@ -33,8 +34,8 @@ use Rattle.archive.specs.Coded.{lentOf}
 
 -- ---- a format starts at its first stride
 -- with zeros for the state
-pub zeros-start : (g : Geometry) → stridesSaid g (replicate 2366 0) ≡ 0
-unfolding stridesSaid startFrom stridesDone encodes workCoded stateFrom workFrom
+pub zeros-start : (g : Geometry) → stridesSaid g (replicate 2878 0) ≡ 0
+unfolding stridesSaid startFrom stridesDone encodes workCoded placesCoded dropsCoded all part stateFrom workFrom
 zeros-start g = refl
 
 -- and with any bytes that encode none
@@ -51,8 +52,8 @@ append-run : (g : Geometry) (p : LentPhase) (es : List Event) (q : LentPhase) (f
 append-run g p es q fs r (LentRun.stop p′) u = u
 append-run g p es q fs r (LentRun.next {q = p′} {es = ds} s t) u = LentRun.next s (append-run g p′ ds q fs r t u)
 
-module _ (g : Geometry) (l : Lent) (es : List Event) (f : LentFormatted g l) (map hold bs : List ℕ) (wide : length map ≡ g .logical) (deep : length hold ≡ 4096) (long : length bs ≡ 2366) where
-  -- wherever a cut lost the state, a recover with any 2,366 bytes goes on with the sequence
+module _ (g : Geometry) (l : Lent) (es : List Event) (f : LentFormatted g l) (map hold bs : List ℕ) (wide : length map ≡ g .logical) (deep : length hold ≡ 4096) (long : length bs ≡ 2878) where
+  -- wherever a cut lost the state, a recover with any 2,878 bytes goes on with the sequence
   pub power-up : (xs : List ℕ) → LentRun g (on l) es (off xs)
       → LentRun g (on l) (es ++ (called (recover g) 0 ∷ [])) (on (after (recover g) (record { array = xs; map = map; hold = hold; bytes = bs })))
   power-up xs r =
@@ -60,7 +61,7 @@ module _ (g : Geometry) (l : Lent) (es : List Event) (f : LentFormatted g l) (ma
       append-run g (on l) es (off xs) _ _ r (LentRun.next (LentStep.back (record { array = xs; map = map; hold = hold; bytes = bs }) (k .succeeds)) (LentRun.stop _))
 
 -- so there is one, for every geometry in range and whatever the RAM holds
-pub some-power-up : (g : Geometry) → geometryOk g ≡ true → (map hold bs : List ℕ) → length map ≡ g .logical → length hold ≡ 4096 → length bs ≡ 2366
+pub some-power-up : (g : Geometry) → geometryOk g ≡ true → (map hold bs : List ℕ) → length map ≡ g .logical → length hold ≡ 4096 → length bs ≡ 2878
     → (l : Lent) × (LentFormatted g l × LentRun g (on l) (cutBetween ∷ called (recover g) 0 ∷ []) (on (after (recover g) (record { array = l .array; map = map; hold = hold; bytes = bs }))))
 some-power-up g ok map hold bs wide deep long =
     let s = some-lent g ok in

@@ -6,20 +6,21 @@ use mathlib.Core.Bool.{Bool, true, false, cond}
 use mathlib.Core.Logic.{_⊎_, inl, inr}
 use mathlib.Core.List.{List, [], _∷_, _++_}
 use native.Mathlib.Omega.{arith}
-use lib.ListN.{length, length-append}
+use lib.ListN.{length, length-append, length-map}
 use lib.Dec.{eqb}
 use borrow.Author.Tests.{eqb-true}
+use Rattle.model.specs.Lists.{part}
 use Rattle.model.specs.Bytes.{words}
 use Rattle.model.specs.Answers.{refused}
 use Rattle.model.specs.World.{World}
 use Rattle.model.specs.Frame.{freshState}
-use Rattle.model.specs.Commands.{Call, format, recover, begin, write, lone, commit, abort, read, checkpoint, reclaim, Outcome, exec}
+use Rattle.model.specs.Commands.{Call, format, recover, begin, write, dropPage, lone, commit, abort, read, checkpoint, reclaim, Outcome, exec}
 use Rattle.model.specs.declared.Geometry.{Geometry}
 use Rattle.model.specs.declared.Place.{Place}
 use Rattle.arrays.specs.Tests.{and-left, decide, clash}
 use Rattle.arrays.specs.Bytelist.{Bytes}
 use Rattle.arrays.specs.Splice.{length-part}
-use Rattle.encoding.specs.Encoding.{zonesFrom, placeFrom, placesIn, stateFrom, encodes, bytesOf}
+use Rattle.encoding.specs.Encoding.{zonesFrom, dropsFrom, placeFrom, placesIn, stateFrom, encodes, bytesOf}
 use Rattle.encoding.specs.StateBack.{PlaceShaped, PlacesShaped, Shaped, state-back, coded-back, fresh-shaped}
 use Rattle.encoding.specs.BytesBack.{bytes-back}
 use Rattle.bokuhira.specs.Calls.{Result, worldOf, worldFrom, resultOf, called, startFrom, sized, started, foundOf, readCalled}
@@ -27,7 +28,7 @@ use Rattle.sequence.specs.Refused.{refused-same, read-same}
 use Rattle.archive.specs.Lent.{Lent, bokuhira, takes, worldIn}
 use Rattle.archive.specs.Shaped.{shaped-after}
 
--- ---- the state that 2,366 bytes say is shaped
+-- ---- the state that 2,878 bytes say is shaped
 length-words : (n : ℕ) (xs : List ℕ) → length xs ≡ 2 * n → length (words xs) ≡ n
 unfolding words
 length-words zero [] h = refl
@@ -40,12 +41,13 @@ append-shaped : (ps : List Place) (p : Place) → PlacesShaped ps → PlaceShape
 append-shaped [] p h k = (k, tt)
 append-shaped (q ∷ ps) p h k = (h .0, append-shaped ps p (h .1) k)
 
-module _ (bs : List ℕ) (long : length bs ≡ 2366) where
+module _ (bs : List ℕ) (long : length bs ≡ 2878) where
   place-shaped : (i : ℕ) → i + 1 ≤ 8 → PlaceShaped (placeFrom bs i)
-  unfolding placeFrom
+  unfolding placeFrom dropsFrom
   place-shaped i h = record {
-    lpns = length-words 64 _ (length-part (278 + 261 * i + 5) 128 bs (omega arith));
-    ppns = length-words 64 _ (length-part (278 + 261 * i + 133) 128 bs (omega arith));
+    lpns = length-words 64 _ (length-part (278 + 325 * i + 5) 128 bs (omega arith));
+    ppns = length-words 64 _ (length-part (278 + 325 * i + 133) 128 bs (omega arith));
+    drops = length-map (part (278 + 325 * i + 261) 64 bs) _ ∙ length-part (278 + 325 * i + 261) 64 bs (omega arith);
   }
 
   places-shaped : (n : ℕ) → n ≤ 8 → (length (placesIn bs n) ≡ n) × PlacesShaped (placesIn bs n)
@@ -67,14 +69,14 @@ module _ (bs : List ℕ) (long : length bs ≡ 2366) where
         each = k .1;
       }
 
--- bytes that encode a state are 2,366
+-- bytes that encode a state are 2,878
 pub coded-sized : (bs : List ℕ) → encodes bs ≡ true → sized bs ≡ true
 unfolding encodes sized
-coded-sized bs e = and-left (eqb (length bs) 2366) _ e
+coded-sized bs e = and-left (eqb (length bs) 2878) _ e
 
-sized-long : (bs : List ℕ) → sized bs ≡ true → length bs ≡ 2366
+sized-long : (bs : List ℕ) → sized bs ≡ true → length bs ≡ 2878
 unfolding sized
-sized-long bs e = eqb-true (length bs) 2366 e
+sized-long bs e = eqb-true (length bs) 2878 e
 
 pub coded-shaped : (bs : List ℕ) → encodes bs ≡ true → Shaped (stateFrom bs)
 coded-shaped bs e = from-shaped bs (sized-long bs (coded-sized bs e))
@@ -159,6 +161,7 @@ module _ (w : World) (h : Shaped (w .state)) where
   call-is (recover g) = started-is recover g ∙ kept (recover g)
   call-is (begin id) = called-is (begin id) ∙ kept (begin id)
   call-is (write id lpn d) = called-is (write id lpn d) ∙ kept (write id lpn d)
+  call-is (dropPage id lpn) = called-is (dropPage id lpn) ∙ kept (dropPage id lpn)
   call-is (lone lpn d) = called-is (lone lpn d) ∙ kept (lone lpn d)
   call-is (commit id) = called-is (commit id) ∙ kept (commit id)
   call-is (abort id) = called-is (abort id) ∙ kept (abort id)
@@ -176,6 +179,7 @@ takes-coded (format g) bs e = coded-sized bs e
 takes-coded (recover g) bs e = coded-sized bs e
 takes-coded (begin id) bs e = e
 takes-coded (write id lpn d) bs e = e
+takes-coded (dropPage id lpn) bs e = e
 takes-coded (lone lpn d) bs e = e
 takes-coded (commit id) bs e = e
 takes-coded (abort id) bs e = e
@@ -190,6 +194,7 @@ world-coded (format g) l e = rw (start-coded g (l .bytes) e)
 world-coded (recover g) l e = rw (start-coded g (l .bytes) e)
 world-coded (begin id) l e = refl
 world-coded (write id lpn d) l e = refl
+world-coded (dropPage id lpn) l e = refl
 world-coded (lone lpn d) l e = refl
 world-coded (commit id) l e = refl
 world-coded (abort id) l e = refl
@@ -254,6 +259,7 @@ module _ (l : Lent) (e : encodes (l .bytes) ≡ true) where
   coded-after (recover g) = started-coded recover g
   coded-after (begin id) = called-coded (begin id)
   coded-after (write id lpn d) = called-coded (write id lpn d)
+  coded-after (dropPage id lpn) = called-coded (dropPage id lpn)
   coded-after (lone lpn d) = called-coded (lone lpn d)
   coded-after (commit id) = called-coded (commit id)
   coded-after (abort id) = called-coded (abort id)

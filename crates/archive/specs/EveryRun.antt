@@ -14,7 +14,7 @@ use Rattle.model.specs.Recover.{entriesAt, zonesAt, scannedAt, recoverPlan, rec
 use Rattle.model.specs.World.{World, program, erase, refuse}
 use Rattle.model.specs.Frame.{lentOk, freshState}
 use Rattle.model.specs.Strides.{stridesDone, formatWorkOk, formatMore, formatLast, formatStride, planFormat}
-use Rattle.model.specs.Commands.{Call, format, recover, begin, write, lone, commit, abort, read, checkpoint, reclaim, plan, carried, Outcome, exec}
+use Rattle.model.specs.Commands.{Call, format, recover, begin, write, dropPage, lone, commit, abort, read, checkpoint, reclaim, plan, carried, Outcome, exec}
 use Rattle.model.specs.Book.{Event, called}
 use Rattle.model.specs.Sequence.{Phase, live, dark, Allowed, isRecovery, cutArray, Step, Run, Formatting, Formatted}
 use Rattle.model.specs.declared.Geometry.{Geometry}
@@ -147,6 +147,7 @@ asked g (format h) w i a = asked-format h w (unfold exec carried in a)
 asked g (recover h) w i a = asked-recover h w
 asked g (begin id) w i a = absurd (false≢true i)
 asked g (write id lpn d) w i a = absurd (false≢true i)
+asked g (dropPage id lpn) w i a = absurd (false≢true i)
 asked g (lone lpn d) w i a = absurd (false≢true i)
 asked g (commit id) w i a = absurd (false≢true i)
 asked g (abort id) w i a = absurd (false≢true i)
@@ -159,6 +160,7 @@ allowed-lent g (format h) w l e a = rw e (unfold exec carried in a)
 allowed-lent g (recover h) w l e a = a
 allowed-lent g (begin id) w l e a = tt
 allowed-lent g (write id lpn d) w l e a = tt
+allowed-lent g (dropPage id lpn) w l e a = tt
 allowed-lent g (lone lpn d) w l e a = tt
 allowed-lent g (commit id) w l e a = tt
 allowed-lent g (abort id) w l e a = tt

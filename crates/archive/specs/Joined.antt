@@ -11,7 +11,7 @@ use Rattle.model.specs.Strides.{planFormat}
 use Rattle.model.specs.Recover.{planRecover}
 use Rattle.model.specs.World.{World}
 use Rattle.model.specs.Frame.{lentOk, freshState}
-use Rattle.model.specs.Commands.{Call, format, recover, begin, write, lone, commit, abort, read, checkpoint, reclaim, plan, carried, exec}
+use Rattle.model.specs.Commands.{Call, format, recover, begin, write, dropPage, lone, commit, abort, read, checkpoint, reclaim, plan, carried, exec}
 use Rattle.model.specs.Book.{Event, called}
 use Rattle.model.specs.Sequence.{Phase, live, dark, Allowed, isRecovery, cutEvent, cutArray, Step, Run, Formatting, Formatted}
 use Rattle.model.specs.declared.Geometry.{Geometry}
@@ -66,6 +66,7 @@ allowed-is g (format h) l w e a = unfold exec carried in (rw e at a)
 allowed-is g (recover h) l w e a = a
 allowed-is g (begin id) l w e a = tt
 allowed-is g (write id lpn d) l w e a = tt
+allowed-is g (dropPage id lpn) l w e a = tt
 allowed-is g (lone lpn d) l w e a = tt
 allowed-is g (commit id) l w e a = tt
 allowed-is g (abort id) l w e a = tt
@@ -74,7 +75,7 @@ allowed-is g checkpoint l w e a = tt
 allowed-is g reclaim l w e a = tt
 
 -- ---- a recover or a format after a cut
--- a world with no hold answers 1, as a call does with bytes that are not 2,366
+-- a world with no hold answers 1, as a call does with bytes that are not 2,878
 abbrev bare : List ℕ → World
 bare xs = worldOf xs [] [] (freshState (record { blocks = 0; pages = 0; logical = 0 }))
 
@@ -87,6 +88,7 @@ bare-refused (format g) xs r = rw (bare-lent g xs)
 bare-refused (recover g) xs r = rw (bare-lent g xs)
 bare-refused (begin id) xs r = absurd (false≢true r)
 bare-refused (write id lpn d) xs r = absurd (false≢true r)
+bare-refused (dropPage id lpn) xs r = absurd (false≢true r)
 bare-refused (lone lpn d) xs r = absurd (false≢true r)
 bare-refused (commit id) xs r = absurd (false≢true r)
 bare-refused (abort id) xs r = absurd (false≢true r)
@@ -113,6 +115,7 @@ recovery-answers (format g) l r = started-answers format g l r refl
 recovery-answers (recover g) l r = started-answers recover g l r refl
 recovery-answers (begin id) l r = absurd (false≢true r)
 recovery-answers (write id lpn d) l r = absurd (false≢true r)
+recovery-answers (dropPage id lpn) l r = absurd (false≢true r)
 recovery-answers (lone lpn d) l r = absurd (false≢true r)
 recovery-answers (commit id) l r = absurd (false≢true r)
 recovery-answers (abort id) l r = absurd (false≢true r)

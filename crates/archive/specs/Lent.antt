@@ -4,7 +4,7 @@ use Prim.Native.Nat.{ℕ}
 use mathlib.Core.Bool.{Bool, false, cond}
 use mathlib.Core.List.{List, []}
 use Rattle.model.specs.World.{World}
-use Rattle.model.specs.Commands.{Call, format, recover, begin, write, lone, commit, abort, read, checkpoint, reclaim}
+use Rattle.model.specs.Commands.{Call, format, recover, begin, write, dropPage, lone, commit, abort, read, checkpoint, reclaim}
 use Rattle.model.specs.Book.{Event, cutIn}
 use Rattle.model.specs.Sequence.{cutEvent, cutArray}
 use Rattle.encoding.specs.Encoding.{encodes}
@@ -27,6 +27,7 @@ bokuhira (format g) l = started format g (l .array) (l .map) (l .hold) (l .bytes
 bokuhira (recover g) l = started recover g (l .array) (l .map) (l .hold) (l .bytes)
 bokuhira (begin id) l = called (begin id) (l .array) (l .map) (l .hold) (l .bytes)
 bokuhira (write id lpn d) l = called (write id lpn d) (l .array) (l .map) (l .hold) (l .bytes)
+bokuhira (dropPage id lpn) l = called (dropPage id lpn) (l .array) (l .map) (l .hold) (l .bytes)
 bokuhira (lone lpn d) l = called (lone lpn d) (l .array) (l .map) (l .hold) (l .bytes)
 bokuhira (commit id) l = called (commit id) (l .array) (l .map) (l .hold) (l .bytes)
 bokuhira (abort id) l = called (abort id) (l .array) (l .map) (l .hold) (l .bytes)
@@ -43,12 +44,13 @@ abbrev pub after : Call → Lent → Lent
 after c l = lentIn (bokuhira c l)
 
 -- ---- a cut in a call
--- whether the call takes the bytes for a state: format and recover any 2,366, the others those that encode one
+-- whether the call takes the bytes for a state: format and recover any 2,878, the others those that encode one
 unfoldable pub takes : Call → List ℕ → Bool
 takes (format g) bs = sized bs
 takes (recover g) bs = sized bs
 takes (begin id) bs = encodes bs
 takes (write id lpn d) bs = encodes bs
+takes (dropPage id lpn) bs = encodes bs
 takes (lone lpn d) bs = encodes bs
 takes (commit id) bs = encodes bs
 takes (abort id) bs = encodes bs
@@ -62,6 +64,7 @@ worldIn (format g) l = worldOf (l .array) (l .map) (l .hold) (startFrom g (l .by
 worldIn (recover g) l = worldOf (l .array) (l .map) (l .hold) (startFrom g (l .bytes))
 worldIn (begin id) l = worldFrom (l .array) (l .map) (l .hold) (l .bytes)
 worldIn (write id lpn d) l = worldFrom (l .array) (l .map) (l .hold) (l .bytes)
+worldIn (dropPage id lpn) l = worldFrom (l .array) (l .map) (l .hold) (l .bytes)
 worldIn (lone lpn d) l = worldFrom (l .array) (l .map) (l .hold) (l .bytes)
 worldIn (commit id) l = worldFrom (l .array) (l .map) (l .hold) (l .bytes)
 worldIn (abort id) l = worldFrom (l .array) (l .map) (l .hold) (l .bytes)

@@ -6,7 +6,7 @@ use mathlib.Core.Bool.{true, false}
 use mathlib.Core.List.{List, [], _∷_}
 use Rattle.model.specs.Answers.{refused}
 use Rattle.model.specs.Strides.{stridesDone}
-use Rattle.model.specs.Commands.{Call, format, recover, begin, write, lone, commit, abort, read, checkpoint, reclaim}
+use Rattle.model.specs.Commands.{Call, format, recover, begin, write, dropPage, lone, commit, abort, read, checkpoint, reclaim}
 use Rattle.model.specs.Book.{Event, called, cutIn, cutBetween}
 use Rattle.model.specs.Sequence.{fits, isRecovery}
 use Rattle.model.specs.declared.Geometry.{Geometry}
@@ -30,6 +30,7 @@ LentAllowed g (format h) l = refused (bokuhira (format h) l .answer) ≡ true
 LentAllowed g (recover h) l = h ≡ g
 LentAllowed g (begin id) l = Unit {0}
 LentAllowed g (write id lpn d) l = Unit {0}
+LentAllowed g (dropPage id lpn) l = Unit {0}
 LentAllowed g (lone lpn d) l = Unit {0}
 LentAllowed g (commit id) l = Unit {0}
 LentAllowed g (abort id) l = Unit {0}

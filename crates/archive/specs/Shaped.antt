@@ -12,9 +12,9 @@ use Rattle.model.specs.Recovery.{pagesGood}
 use Rattle.model.specs.Recover.{entriesAt, zonesAt, scannedAt, recoveredState, recoverPlan, recoverFrom, planRecover}
 use Rattle.model.specs.World.{World, Op, none, Plan, refuse}
 use Rattle.model.specs.Frame.{freePlace, noPlace, lentOk, frameOk, gate, freshState}
-use Rattle.model.specs.Transactions.{unless, withPlace, withVersion, nextPage, spent, begun, planBegin, written, writePlan, planWrite, lonePlan, planLone, markPlan, forgetPlan, planCommit, planAbort, readAnswer}
+use Rattle.model.specs.Transactions.{unless, withPlace, withVersion, nextPage, spent, begun, planBegin, written, writePlan, addPlan, planWrite, gone, planDrop, lonePlan, planLone, markPlan, forgetPlan, planCommit, planAbort, readAnswer}
 use Rattle.model.specs.Strides.{withWork, withZones, withNumber, mapStride, zoneStride, pageStride, otherStride, firstStride, checkpointStride, isCheckpoint, planCheckpoint, isReclaim, picked, copyStride, freeStride, reclaimStride, planReclaim, stridesDone, formatWorkOk, formatMore, formatLast, formatStride, planFormat}
-use Rattle.model.specs.Commands.{Call, format, recover, begin, write, lone, commit, abort, read, checkpoint, reclaim, plan, carried, exec}
+use Rattle.model.specs.Commands.{Call, format, recover, begin, write, dropPage, lone, commit, abort, read, checkpoint, reclaim, plan, carried, exec}
 use Rattle.model.specs.declared.Geometry.{Geometry}
 use Rattle.model.specs.declared.Place.{Place}
 use Rattle.model.specs.declared.Zones.{Zones}
@@ -40,15 +40,19 @@ at-shaped (q ∷ ps) zero h l = h .0
 at-shaped (q ∷ ps) (suc i) h l = at-shaped ps i (h .1) (omega arith)
 
 free-shaped : PlaceShaped freePlace
-free-shaped = record { lpns = refl; ppns = refl }
+free-shaped = record { lpns = refl; ppns = refl; drops = refl }
 
 begun-shaped : (id : ℕ) → PlaceShaped (begun id)
 unfolding begun
-begun-shaped id = record { lpns = refl; ppns = refl }
+begun-shaped id = record { lpns = refl; ppns = refl; drops = refl }
 
-written-shaped : (p : Place) (k lpn : ℕ) → PlaceShaped p → PlaceShaped (written p k lpn)
+written-shaped : (p : Place) (k lpn : ℕ) (drop : Bool) → PlaceShaped p → PlaceShaped (written p k lpn drop)
 unfolding written
-written-shaped p k lpn h = record { lpns = length-set (p .lpns) (p .count) lpn ∙ h .lpns; ppns = go (eqb (p .count) 0) }
+written-shaped p k lpn drop h = record {
+  lpns = length-set (p .lpns) (p .count) lpn ∙ h .lpns;
+  ppns = go (eqb (p .count) 0);
+  drops = length-set (p .drops) (p .count) drop ∙ h .drops;
+}
   where
     go : (t : Bool) → length (cond t (p .ppns) (set (p .ppns) (p .count - 1) k)) ≡ 64
     go true = h .ppns
@@ -104,7 +108,7 @@ module _ (w : World) (h : Shaped (w .state)) where
   leaves-gate : (own : Bool) {p : Plan} → (frameOk w ≡ true → Leaves p) → Leaves (unless (gate own w) w p)
   leaves-gate own hp = leaves-where (eqb (gate own w) 0) (λ e. hp (gate-passes own w e)) (leaves-refuse (gate own w))
 
-  -- ---- begin, write, lone write, commit, abort
+  -- ---- begin, write, drop, lone write, commit, abort
   leaves-begun : (i id : ℕ) {m l : List ℕ} → Leaves (record { answer = 0; op = none; map = m; hold = l; state = withPlace (w .state) i (begun id) })
   leaves-begun i id = record { shaped = with-place (w .state) h i (begun id) (λ l. begun-shaped id) }
 
@@ -112,13 +116,22 @@ module _ (w : World) (h : Shaped (w .state)) where
   unfolding planBegin
   leaves-begin id = leaves-gate false (λ f. search (leaves-cond, leaves-refuse, leaves-begun) depth 9)
 
-  leaves-written : (i lpn : ℕ) (d : List ℕ) → Leaves (writePlan i (getD (w .state .places) i noPlace) lpn d w)
+  leaves-written : (i lpn : ℕ) (drop : Bool) (d : List ℕ) → Leaves (writePlan i (getD (w .state .places) i noPlace) lpn drop d w)
   unfolding writePlan
-  leaves-written i lpn d = record { shaped = with-place (w .state) h i _ (λ l. written-shaped _ (nextPage w) lpn (at-shaped (w .state .places) i (h .each) l)) }
+  leaves-written i lpn drop d =
+      record { shaped = with-place (w .state) h i _ (λ l. written-shaped _ (nextPage w) lpn drop (at-shaped (w .state .places) i (h .each) l)) }
+
+  leaves-added : (id lpn : ℕ) (drop : Bool) (d : List ℕ) → Leaves (addPlan id lpn drop d w)
+  unfolding addPlan
+  leaves-added id lpn drop d = search (leaves-cond, leaves-refuse, leaves-written) depth 9
 
   leaves-write : (id lpn : ℕ) (d : List ℕ) → Leaves (planWrite id lpn d w)
   unfolding planWrite
-  leaves-write id lpn d = leaves-gate false (λ f. search (leaves-cond, leaves-refuse, leaves-written) depth 9)
+  leaves-write id lpn d = leaves-gate false (λ f. search (leaves-cond, leaves-refuse, leaves-added))
+
+  leaves-drop : (id lpn : ℕ) → Leaves (planDrop id lpn w)
+  unfolding planDrop
+  leaves-drop id lpn = leaves-gate false (λ f. leaves-added id lpn true gone)
 
   leaves-page : (lpn : ℕ) (d : List ℕ) → Leaves (lonePlan lpn d w)
   unfolding lonePlan
@@ -249,6 +262,7 @@ module _ (w : World) (h : Shaped (w .state)) where
   leaves-plan (recover g) = leaves-recover g
   leaves-plan (begin id) = leaves-begin id
   leaves-plan (write id lpn d) = leaves-write id lpn d
+  leaves-plan (dropPage id lpn) = leaves-drop id lpn
   leaves-plan (lone lpn d) = leaves-lone lpn d
   leaves-plan (commit id) = leaves-commit id
   leaves-plan (abort id) = leaves-abort id

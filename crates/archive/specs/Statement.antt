@@ -42,9 +42,9 @@ LentLive g b (on l) = LentRight g b l
 LentLive g b (off xs) = Unit {0}
 
 -- what is claimed of a list of events that led from a format to phase p: of the array that it left, with any map and hold of the right lengths
--- and any 2,366 bytes; and of what is lent, where the state is not lost
+-- and any 2,878 bytes; and of what is lent, where the state is not lost
 pub record LentKept (g : Geometry) (es : List Event) (p : LentPhase) : Type 0 where
-  pub recovers : (map hold bs : List ℕ) → length map ≡ g .logical → length hold ≡ 4096 → length bs ≡ 2366
+  pub recovers : (map hold bs : List ℕ) → length map ≡ g .logical → length hold ≡ 4096 → length bs ≡ 2878
       → LentRecovers g (story (blank g) es) (record { array = lentArray p; map = map; hold = hold; bytes = bs })
   pub live : LentLive g (story (blank g) es) p
 

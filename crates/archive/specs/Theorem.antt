@@ -30,15 +30,15 @@ world-right w h g b r = record { coded = coded-back (w .state) h; reads = λ lpn
 said-right : (l : Lent) (w : World) (g : Geometry) (b : Book) → Says l w → Reads g b w → LentRight g b l
 said-right l w g b s r = subst (LentRight g b) (sym (s .is)) (world-right w (s .shaped) g b r)
 
--- ---- a recovery with any 2,366 bytes
-module _ (g : Geometry) (b : Book) (l : Lent) (long : length (l .bytes) ≡ 2366) (k : Recovers g b (startOf g l)) where
+-- ---- a recovery with any 2,878 bytes
+module _ (g : Geometry) (b : Book) (l : Lent) (long : length (l .bytes) ≡ 2878) (k : Recovers g b (startOf g l)) where
   -- the world that it leads to
   abbrev found : World
   found = exec (recover g) (startOf g l) .world
 
   succeeds : bokuhira (recover g) l .answer ≡ 0
   unfolding bokuhira sized resultOf
-  succeeds = rw (started-sized recover g l (eq-eqb (length (l .bytes)) 2366 long)) (k .succeeds)
+  succeeds = rw (started-sized recover g l (eq-eqb (length (l .bytes)) 2878 long)) (k .succeeds)
 
   does : Does (recover g) l (startOf g l)
   does = recover-does g l (unfold refused in rw succeeds)
@@ -84,7 +84,7 @@ demand3-bytes g l es p f r =
 
 -- and of every array that a sequence with changes of up to 64 pages left: the next bokuhira_recover, whatever it is handed
 pub former-bytes : (g : Geometry) (w : World) (es : List Event) (p : Phase) → Formatted g w → FormerRun g (live w) es p
-    → (map hold bs : List ℕ) → length map ≡ g .logical → length hold ≡ 4096 → length bs ≡ 2366
+    → (map hold bs : List ℕ) → length map ≡ g .logical → length hold ≡ 4096 → length bs ≡ 2878
     → LentRecovers g (story (blank g) es) (record { array = arrayOf p; map = map; hold = hold; bytes = bs })
 former-bytes g w es p f r map hold bs wide deep long = lent-recovers g (story (blank g) es) _ long (former-kept g w es p f r .recovers map hold (startFrom g bs) wide deep)
 

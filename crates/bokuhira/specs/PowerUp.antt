@@ -64,7 +64,7 @@ unfolding resultOf refused
 stored bs cs o e = rw e
 
 -- ---- the laws
-module _ (g : Geometry) (xs map hold bs cs : List ℕ) (h : length bs ≡ 2366) (k : length cs ≡ 2366) where
+module _ (g : Geometry) (xs map hold bs cs : List ℕ) (h : length bs ≡ 2878) (k : length cs ≡ 2878) where
   same-answer : exec (recover g) (worldOf xs map hold (startFrom g bs)) .answer ≡ exec (recover g) (worldOf xs map hold (startFrom g cs)) .answer
   unfolding resultOf
   same-answer = ap (λ (r : Result). r .answer) (blind g xs map hold bs (startFrom g bs) (startFrom g cs))

@@ -1,12 +1,12 @@
 // The commands for callers in C or Rust (include/bokuhira.h). The array, the map, the hold and the state, as bytes (crate `encoding`), are
-// lent as slices. Nothing is required of a caller. Format and recover take any 2,366 bytes for the state, since after power-up anything
+// lent as slices. Nothing is required of a caller. Format and recover take any 2,878 bytes for the state, since after power-up anything
 // stands there; to the other commands bytes that encode no state are a bad frame, answered 1. An answer is a number, 0 done, 255 more, else
 // the refusal's, and a refusal leaves every slice as it was. Beside the commands stands the class of a page, for whoever looks into an array.
 ghost use mathlib.Core.Path.{_≡_};
 ghost use mathlib.Core.Bool.{true, cond};
 ghost use lib.ListN.{length};
 ghost use Rattle.model.specs.Answers.{number, refused};
-ghost use Rattle.model.specs.Commands.{format, recover, begin, write, lone, commit, abort, checkpoint, reclaim};
+ghost use Rattle.model.specs.Commands.{format, recover, begin, write, dropPage, lone, commit, abort, checkpoint, reclaim};
 ghost use Rattle.encoding.specs.Encoding.{encodes, stateFrom, bytesOf};
 ghost use Rattle.bokuhira.specs.Calls.{Result, called, startFrom, sized, started, Found, readCalled, Classed, classCalled};
 use device::Device;
@@ -29,12 +29,12 @@ fn device(state: &[u8]) -> Device
 fn sized(state: &[u8]) -> bool
     ensures { λ r. ⌜ r ≡ sized (now (state .entry)) ⌝ }
 {
-    state.len() == 2366
+    state.len() == 2878
 }
 
 /// The device that a format starts from: of the state that the bytes say, or where they encode none, of a fresh one.
 fn starting(state: &[u8], g: Geometry) -> Device
-    requires { ⌜ length (now state) ≡ 2366 ⌝ }
+    requires { ⌜ length (now state) ≡ 2878 ⌝ }
     ensures { λ r. ⌜ r .state ≡ startFrom g (now (state .entry)) ⌝ }
 {
     if encoding::encodes(state) {
@@ -46,7 +46,7 @@ fn starting(state: &[u8], g: Geometry) -> Device
 
 /// The answer's number of a reply; unless it refuses, its state is stored.
 fn finish(state: &mut [u8], r: Reply) -> u8
-    requires { ⌜ length (now state) ≡ 2366 ⌝ }
+    requires { ⌜ length (now state) ≡ 2878 ⌝ }
     ensures { λ n. ⌜ (n ≡ number (r .answer)) × (now (state .exit) ≡ cond (refused (number (r .answer))) (now (state .entry)) (bytesOf (r .device .state))) ⌝ }
 {
     let a = r.answer;
@@ -62,7 +62,7 @@ fn finish(state: &mut [u8], r: Reply) -> u8
     n
 }
 
-/// One stride of a format. Any 2,366 bytes will do for the state.
+/// One stride of a format. Any 2,878 bytes will do for the state.
 #[no_mangle]
 pub extern "C" fn bokuhira_format(
     array: &mut [u8],
@@ -87,7 +87,7 @@ pub extern "C" fn bokuhira_format(
     finish(state, r)
 }
 
-/// Makes map and state from what stands on the array. Any 2,366 bytes will do for the state: none is looked at.
+/// Makes map and state from what stands on the array. Any 2,878 bytes will do for the state: none is looked at.
 #[no_mangle]
 pub extern "C" fn bokuhira_recover(
     array: &[u8],
@@ -149,6 +149,25 @@ pub extern "C" fn bokuhira_write(
         return 1;
     }
     let r = device(state).write(array, map, hold, id, lpn, data);
+    finish(state, r)
+}
+
+/// Adds a page to an open change that drops its logical page.
+#[no_mangle]
+pub extern "C" fn bokuhira_drop(
+    array: &mut [u8],
+    map: &[u16],
+    hold: &mut [u8],
+    state: &mut [u8],
+    id: u32,
+    lpn: u16,
+) -> u8
+    ensures { λ r. ⌜ _≡_ {A = Result} (record { answer = r; array = now (array .exit); map = now (map .entry); hold = now (hold .exit); bytes = now (state .exit) }) (called (dropPage id lpn) (now (array .entry)) (now (map .entry)) (now (hold .entry)) (now (state .entry))) ⌝ }
+{
+    if !encoding::encodes(state) {
+        return 1;
+    }
+    let r = device(state).drop(array, map, hold, id, lpn);
     finish(state, r)
 }
 

@@ -8,11 +8,12 @@ ghost use Rattle.model.specs.Lists.{all};
 ghost use Rattle.model.specs.Page.{pageBytes};
 ghost use Rattle.model.specs.Zones.{availableOf, cleanIn, nextIn};
 ghost use Rattle.model.specs.Frame.{noPlace};
-ghost use Rattle.model.specs.Transactions.{heldAt, holdWith, entered, writePlan, lonePlan, markPlan};
+ghost use Rattle.model.specs.Transactions.{pageKind, heldAt, holdWith, entered, writePlan, lonePlan, markPlan};
 ghost use Rattle.model.specs.Commands.{Outcome};
 ghost use Rattle.flash.specs.Programs.{Programmed};
 ghost use Rattle.zones.specs.Judging.{Ready};
 ghost use Rattle.change.specs.Changes.{dataSpare, done, HeldDone, Taking, Writing};
+use model::Map;
 use model::Place;
 use model::Spare;
 use model::State;
@@ -40,16 +41,26 @@ pub fn zone_short(s: State, array: &[u8]) -> bool
     flash::clean_short(array, pages, &a[..n], pages + 1)
 }
 
-/// The spare area of a data page.
-pub fn data_spare(lpn: u16, cnt: u16, id: u32, ver: u32) -> Spare
-    ensures { λ r. ⌜ r ≡ dataSpare lpn cnt id ver ⌝ }
+/// The kind of a page that writes or drops its logical page.
+fn kind_of(drop: bool) -> u8
+    ensures { λ r. ⌜ r ≡ pageKind drop ⌝ }
+{
+    if drop {
+        return Spare::DROP_KIND;
+    }
+    Spare::DATA_KIND
+}
+
+/// The spare area of a page that writes or drops a logical page.
+pub fn data_spare(drop: bool, lpn: u16, cnt: u16, id: u32, ver: u32) -> Spare
+    ensures { λ r. ⌜ r ≡ dataSpare drop lpn cnt id ver ⌝ }
 {
     Spare {
         lpn,
         cnt,
         id,
         ver,
-        kind: Spare::DATA_KIND,
+        kind: kind_of(drop),
         reserved: 0,
     }
 }
@@ -75,14 +86,20 @@ pub fn hold_page(hold: &mut [u8], i: usize, data: &[u8])
 }
 
 /// Enters the first n pages of a place in the map, in write order.
-pub fn enter(map: &mut [u16], lpns: [u16; Place::PAGES], ppns: [u16; Place::PAGES], n: usize)
+pub fn enter(
+    map: &mut [u16],
+    lpns: [u16; Place::PAGES],
+    ppns: [u16; Place::PAGES],
+    drops: [bool; Place::PAGES],
+    n: usize,
+)
     requires { ⌜ (n ≤ 64) × (all (λ (l : ℕ). ltb l (length (now map))) (take n lpns) ≡ true) ⌝ }
-    ensures { λ _. ⌜ now (map .exit) ≡ entered (now (map .entry)) lpns ppns n ⌝ }
+    ensures { λ _. ⌜ now (map .exit) ≡ entered (now (map .entry)) lpns ppns drops n ⌝ }
 {
     let mut i: usize = 0;
     while i < n {
         let lpn = lpns[i] as usize;
-        map[lpn] = ppns[i];
+        map[lpn] = Map::leads(drops[i], ppns[i]);
         i += 1;
     }
 }
@@ -97,11 +114,12 @@ pub fn write_held(array: &mut [u8], hold: &[u8], i: usize, p: Place, k: usize, c
         return;
     }
     let lpns = p.lpns;
-    let spare = data_spare(lpns[n - 1], cnt, p.id, ver);
+    let drops = p.drops;
+    let spare = data_spare(drops[n - 1], lpns[n - 1], cnt, p.id, ver);
     program_held(array, k, hold, i, spare);
 }
 
-/// Writes a page in place i: the one held before is programmed, the new one held.
+/// Writes or drops a logical page in place i: the page held before is programmed, the new one held.
 pub fn write_in(
     s: State,
     array: &mut [u8],
@@ -109,17 +127,18 @@ pub fn write_in(
     hold: &mut [u8],
     i: usize,
     lpn: u16,
+    drop: bool,
     data: &[u8],
 ) -> State
     requires { ⌜ Writing s (now array) (now map) (now hold) i lpn (now «data») ⌝ }
-    ensures { λ r. ⌜ _≡_ {A = Outcome} (record { answer = 0; world = record { array = now (array .exit); map = now (map .entry); hold = now (hold .exit); state = r } }) (done (writePlan i (getD (s .places) i noPlace) lpn (now («data» .entry))) (record { array = now (array .entry); map = now (map .entry); hold = now (hold .entry); state = s })) ⌝ }
+    ensures { λ r. ⌜ _≡_ {A = Outcome} (record { answer = 0; world = record { array = now (array .exit); map = now (map .entry); hold = now (hold .exit); state = r } }) (done (writePlan i (getD (s .places) i noPlace) lpn drop (now («data» .entry))) (record { array = now (array .entry); map = now (map .entry); hold = now (hold .entry); state = s })) ⌝ }
 {
     let ps = s.places;
     let p = ps[i];
     let k = next_page(s, array);
     write_held(array, hold, i, p, k, 0, 0);
     hold_page(hold, i, data);
-    let q = places::written(p, k as u16, lpn);
+    let q = places::written(p, k as u16, lpn, drop);
     places::with_place(s, i, q)
 }
 
@@ -137,7 +156,7 @@ pub fn write_lone(
 {
     let k = next_page(s, array);
     let v = s.version + 1;
-    let spare = data_spare(lpn, 1, 0, v);
+    let spare = data_spare(false, lpn, 1, 0, v);
     flash::program_at(array, k, data, spare);
     let at = lpn as usize;
     map[at] = k as u16;
@@ -158,7 +177,8 @@ pub fn mark(s: State, array: &mut [u8], map: &mut [u16], hold: &[u8], i: usize) 
     let lpns = p.lpns;
     let mut ppns = p.ppns;
     ppns[n - 1] = k as u16;
-    enter(map, lpns, ppns, n);
+    let drops = p.drops;
+    enter(map, lpns, ppns, drops, n);
     let t = places::with_version(s, v);
     let free = Place::free();
     places::with_place(t, i, free)

@@ -1,8 +1,8 @@
-// The ten commands. A device goes in and comes back, with the array, the map and the hold lent beside it.
+// The eleven commands. A device goes in and comes back, with the array, the map and the hold lent beside it.
 // Nothing is required of a caller: whatever is handed in, a command answers as document 01 (docs/PAPERS.md) says.
 ghost use mathlib.Core.Path.{_≡_};
 ghost use Rattle.model.specs.Answers.{number};
-ghost use Rattle.model.specs.Commands.{Outcome, exec, format, recover, begin, write, lone, commit, abort, read, checkpoint, reclaim};
+ghost use Rattle.model.specs.Commands.{Outcome, exec, format, recover, begin, write, dropPage, lone, commit, abort, read, checkpoint, reclaim};
 ghost use Rattle.model.specs.Transactions.{readPart};
 ghost use Rattle.device.specs.Replies.{replied};
 use model::Answer;
@@ -54,6 +54,13 @@ impl Device {
         ensures { λ r. ⌜ _≡_ {A = Outcome} (record { answer = number (r .answer); world = record { array = now (array .exit); map = now (map .entry); hold = now (hold .exit); state = r .device .state } }) (exec (write id lpn (now («data» .entry))) (record { array = now (array .entry); map = now (map .entry); hold = now (hold .entry); state = self .state })) ⌝ }
     {
         strode(writing::write(self.state, array, map, hold, id, lpn, data))
+    }
+
+    /// Adds a page that drops a logical page to an open change: 5, 8, 10, 12.
+    pub fn drop(self, array: &mut [u8], map: &[u16], hold: &mut [u8], id: u32, lpn: u16) -> Reply
+        ensures { λ r. ⌜ _≡_ {A = Outcome} (record { answer = number (r .answer); world = record { array = now (array .exit); map = now (map .entry); hold = now (hold .exit); state = r .device .state } }) (exec (dropPage id lpn) (record { array = now (array .entry); map = now (map .entry); hold = now (hold .entry); state = self .state })) ⌝ }
+    {
+        strode(writing::drop(self.state, array, map, hold, id, lpn))
     }
 
     /// Writes a page by itself: 11, 5, 13, 12.

@@ -1,13 +1,15 @@
 -- Numbers laid into a list one part after the other: together they replace one part. Assumes nothing.
 use mathlib.Core.Path.{_≡_, refl, sym, ap, _∙_}
-use mathlib.Core.List.{List, [], _∷_, _++_, append-assoc, append-nil}
+use mathlib.Core.Bool.{Bool, true, false}
+use mathlib.Core.List.{List, [], _∷_, _++_, map, append-assoc, append-nil}
 use Prim.Native.Nat.{ℕ, _+_, _≤_, _<_}
 use native.Mathlib.Numerals.{add-one}
 use native.Mathlib.Omega.{arith}
-use lib.ListN.{length, take, drop, set, getD, length-append, length-set, take-append-drop, drop-of-length-le}
+use lib.ListN.{length, take, drop, set, getD, length-append, length-map, length-set, List·getD-map, take-append-drop, drop-of-length-le}
 use lib.Seq.{take-suc, take-all, set-split, take-at, drop-at, drop-drop, length-take-le}
+use mir.Val.{boolByte}
 use Rattle.model.specs.Lists.{splice}
-use Rattle.encoding.specs.Encoding.{Laid}
+use Rattle.encoding.specs.Encoding.{dropByte, dropBytes, Laid}
 
 -- nothing yet
 pub laid-none : (xs : List ℕ) (a : ℕ) → a ≤ length xs → Laid xs a 0 [] xs
@@ -81,3 +83,19 @@ laid-next {xs} {a} {i} {now} list l h k = rw (add-one, take-suc list i 0, ← ad
 
 pub laid-end : {xs : List ℕ} {a i : ℕ} {now : List ℕ} (list : List ℕ) → Laid xs a i (take i list) now → i ≡ length list → Laid xs a (length list) list now
 laid-end {xs} {a} {i} {now} list l e = let t : take i list ≡ list = take-all i list (omega arith) in rw (← e, ← t) l
+
+-- the same of drops, a byte each
+byte-of : (d : Bool) → boolByte d ≡ dropByte d
+byte-of true = refl
+byte-of false = refl
+
+pub drops-next : {xs : List ℕ} {a i : ℕ} {now : List ℕ} (ds : List Bool) → Laid xs a i (take i (dropBytes ds)) now → i < length ds → a + length ds ≤ length xs
+    → Laid xs a (i + 1) (take (i + 1) (dropBytes ds)) (set now (a + i) (boolByte (getD ds i false)))
+unfolding dropBytes
+drops-next {xs} {a} {i} {now} ds l h k =
+    let e : boolByte (getD ds i false) ≡ getD (map dropByte ds) i 0 = byte-of (getD ds i false) ∙ sym (List·getD-map dropByte ds i false) in
+    rw e (laid-next (map dropByte ds) l (rw length-map h) (rw length-map k))
+
+pub drops-end : {xs : List ℕ} {a i : ℕ} {now : List ℕ} (ds : List Bool) → Laid xs a i (take i (dropBytes ds)) now → i ≡ length ds → Laid xs a (length ds) (dropBytes ds) now
+unfolding dropBytes
+drops-end ds l e = laid-size (length ds) (laid-end (map dropByte ds) l (rw length-map e)) (length-map ds dropByte)

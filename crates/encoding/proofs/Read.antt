@@ -1,5 +1,6 @@
 -- Structs made of what was read for each field. Assumes nothing.
 use mathlib.Core.Path.{_≡_}
+use mathlib.Core.Bool.{Bool}
 use mathlib.Core.List.{List, [], _∷_}
 use Prim.Native.Nat.{ℕ, _+_, _*_}
 use lib.ListN.{getD}
@@ -9,18 +10,18 @@ use Rattle.model.specs.declared.Place.{Place}
 use Rattle.model.specs.declared.Zones.{Zones}
 use Rattle.model.specs.declared.State.{State}
 use Rattle.model.specs.declared.Work.{Work}
-use Rattle.encoding.specs.Encoding.{zonesFrom, workFrom, placeFrom, placesIn, stateFrom}
+use Rattle.encoding.specs.Encoding.{zonesFrom, workFrom, dropsFrom, placeFrom, placesIn, stateFrom}
 
 pub zones-read : (xs a u f : List ℕ) → a ≡ part 6 3 xs → u ≡ part 10 126 xs → f ≡ part 137 126 xs
     → _≡_ {A = Zones} (record { available = a; na = getD xs 9 0; unavailable = u; nu = getD xs 136 0; free = f; nf = getD xs 263 0; pointer = getD xs 264 0 }) (zonesFrom xs)
 unfolding zonesFrom
 zones-read xs a u f e1 e2 e3 = rw (e1, e2, e3)
 
-pub place-read : (xs : List ℕ) (i id : ℕ) (ls ps : List ℕ) → id ≡ le32 xs (278 + 261 * i) → ls ≡ words (part (278 + 261 * i + 5) 128 xs)
-    → ps ≡ words (part (278 + 261 * i + 133) 128 xs)
-    → _≡_ {A = Place} (record { id = id; count = getD xs (278 + 261 * i + 4) 0; lpns = ls; ppns = ps }) (placeFrom xs i)
+pub place-read : (xs : List ℕ) (i id : ℕ) (ls ps : List ℕ) (ds : List Bool) → id ≡ le32 xs (278 + 325 * i) → ls ≡ words (part (278 + 325 * i + 5) 128 xs)
+    → ps ≡ words (part (278 + 325 * i + 133) 128 xs) → ds ≡ dropsFrom (part (278 + 325 * i + 261) 64 xs)
+    → _≡_ {A = Place} (record { id = id; count = getD xs (278 + 325 * i + 4) 0; lpns = ls; ppns = ps; drops = ds }) (placeFrom xs i)
 unfolding placeFrom
-place-read xs i id ls ps e1 e2 e3 = rw (e1, e2, e3)
+place-read xs i id ls ps ds e1 e2 e3 e4 = rw (e1, e2, e3, e4)
 
 pub places-read : (xs : List ℕ) (a b c d e f g h : Place) → a ≡ placeFrom xs 0 → b ≡ placeFrom xs 1 → c ≡ placeFrom xs 2 → d ≡ placeFrom xs 3
     → e ≡ placeFrom xs 4 → f ≡ placeFrom xs 5 → g ≡ placeFrom xs 6 → h ≡ placeFrom xs 7

@@ -1,19 +1,29 @@
--- A list filled from the front with bytes, or with numbers of 2 bytes, that stand from a place on. Assumes nothing.
+-- A list filled from the front with what stands from a place on: bytes, numbers of 2 bytes, drops. Assumes nothing.
 use mathlib.Core.Path.{_≡_, refl, sym, ap, _∙_}
-use mathlib.Core.List.{List, [], _∷_, _++_}
+use mathlib.Core.Bool.{Bool}
+use mathlib.Core.List.{List, [], _∷_, _++_, map-append}
 use Prim.Native.Nat.{ℕ, zero, suc, _+_, _*_, _≤_, _<_}
 use native.Mathlib.Numerals.{add-one}
 use native.Mathlib.Omega.{arith}
 use lib.ListN.{length, take, drop, set, getD, length-drop}
+use lib.Dec.{eqb}
 use lib.Seq.{take-suc, take-all, take-suc-set, getD-drop}
 use Rattle.model.specs.Lists.{part}
 use Rattle.model.specs.Bytes.{le16, words}
+use Rattle.encoding.specs.Encoding.{dropsFrom}
+
+-- ---- any list
+module _ {A : Type 0} where
+  -- one more element
+  stored : (l ys zs : List A) (i : ℕ) (x : A) → i < length l → take i l ≡ ys → ys ++ (x ∷ []) ≡ zs → take (i + 1) (set l i x) ≡ zs
+  stored l ys zs i x h e f = ap (λ (j : ℕ). take j (set l i x)) (add-one i) ∙ take-suc-set l i x h ∙ ap (λ (t : List A). t ++ (x ∷ [])) e ∙ f
+
+  -- the end of the loop: f says what stands in the first n
+  pub filled : (f : ℕ → List A) (l : List A) (i n : ℕ) → i ≡ n → length l ≡ n → take i l ≡ f i → l ≡ f n
+  filled f l i n h k e = sym (take-all i l (omega arith)) ∙ e ∙ ap f h
 
 -- ---- one more element
-stored : (l ys zs : List ℕ) (i x : ℕ) → i < length l → take i l ≡ ys → ys ++ (x ∷ []) ≡ zs → take (i + 1) (set l i x) ≡ zs
-stored l ys zs i x h e f = ap (λ (j : ℕ). take j (set l i x)) (add-one i) ∙ take-suc-set l i x h ∙ ap (λ (t : List ℕ). t ++ (x ∷ [])) e ∙ f
-
-part-more : (xs : List ℕ) (at i : ℕ) → at + i < length xs → part at i xs ++ (getD xs (at + i) 0 ∷ []) ≡ part at (i + 1) xs
+pub part-more : (xs : List ℕ) (at i : ℕ) → at + i < length xs → part at i xs ++ (getD xs (at + i) 0 ∷ []) ≡ part at (i + 1) xs
 unfolding part
 part-more xs at i h =
     let l : i < length (drop at xs) = rw length-drop (omega arith) in
@@ -35,12 +45,14 @@ le16-drop xs at k =
     let a : at + (k + 1) ≡ at + k + 1 = omega arith in
     rw (getD-drop at xs k 0, getD-drop at xs (k + 1) 0, a)
 
--- ---- a turn of the loop, and its end
+-- ---- a turn of the loop
 pub bytes-more : (xs l : List ℕ) (at i : ℕ) → i < length l → at + i < length xs → take i l ≡ part at i xs → take (i + 1) (set l i (getD xs (at + i) 0)) ≡ part at (i + 1) xs
 bytes-more xs l at i h k e = stored l _ _ i _ h e (part-more xs at i k)
 
-pub bytes-all : (xs l : List ℕ) (at i n : ℕ) → i ≡ n → length l ≡ n → take i l ≡ part at i xs → l ≡ part at n xs
-bytes-all xs l at i n h k e = sym (take-all i l (omega arith)) ∙ e ∙ ap (λ (j : ℕ). part at j xs) h
+pub drops-more : (xs : List ℕ) (l : List Bool) (at i : ℕ) → i < length l → at + i < length xs → take i l ≡ dropsFrom (part at i xs)
+    → take (i + 1) (set l i (eqb (getD xs (at + i) 0) 1)) ≡ dropsFrom (part at (i + 1) xs)
+unfolding dropsFrom
+drops-more xs l at i h k e = stored l _ _ i _ h e (sym (map-append (λ (x : ℕ). eqb x 1) (part at i xs) (getD xs (at + i) 0 ∷ [])) ∙ ap dropsFrom (part-more xs at i k))
 
 pub halves-more : (xs l : List ℕ) (at i x : ℕ) → i < length l → at + (2 * i + 2) ≤ length xs → x ≡ le16 xs (at + 2 * i) → take i l ≡ words (part at (2 * i) xs)
     → take (i + 1) (set l i x) ≡ words (part at (2 * (i + 1)) xs)
@@ -48,6 +60,3 @@ unfolding part
 halves-more xs l at i x h k f e =
     let j : 2 * i + 2 ≤ length (drop at xs) = rw length-drop (omega arith) in
     stored l _ _ i x h e (ap (λ (y : ℕ). words (take (2 * i) (drop at xs)) ++ (y ∷ [])) (f ∙ sym (le16-drop xs at (2 * i))) ∙ words-more (drop at xs) i j)
-
-pub halves-all : (xs l : List ℕ) (at i n : ℕ) → i ≡ n → length l ≡ n → take i l ≡ words (part at (2 * i) xs) → l ≡ words (part at (2 * n) xs)
-halves-all xs l at i n h k e = sym (take-all i l (omega arith)) ∙ e ∙ ap (λ (j : ℕ). words (part at (2 * j) xs)) h

@@ -1,21 +1,22 @@
 -- Bytes that encode a state are the bytes of the state that they say. Assumes nothing.
 use mathlib.Core.Path.{_≡_, refl, sym, ap, _∙_}
+use mathlib.Core.Logic.{inl, inr}
 use mathlib.Core.Bool.{Bool, true, false, cond, _&&_, _||_, false≢true}
 use mathlib.Core.List.{List, [], _∷_, _++_}
 use Prim.Native.Nat.{ℕ, zero, suc, _+_, _-_, _*_, _/_, _%_, _≤_, _<_}
 use native.Mathlib.Nat.{mul-suc}
 use native.Mathlib.Omega.{arith}
 use lib.ListN.{length, take, drop, getD}
-use lib.Dec.{eqb}
+use lib.Dec.{eqb, ltb}
 use lib.Seq.{take-add, drop-drop, drop-cons}
-use borrow.Author.Tests.{eqb-true}
-use Rattle.model.specs.Lists.{part}
+use borrow.Author.Tests.{eqb-true, ltb-true}
+use Rattle.model.specs.Lists.{all, part}
 use Rattle.model.specs.Bytes.{le16, le32, bytes16, bytes32, words}
 use Rattle.model.specs.declared.Work.{Work}
-use Rattle.arrays.specs.Tests.{and-left, and-right}
+use Rattle.arrays.specs.Tests.{Is, eqb-cases, and-left, and-right}
 use Rattle.arrays.specs.Bytelist.{Bytes, bytes-take, bytes-drop}
 use Rattle.arrays.specs.Splice.{length-part, part-all}
-use Rattle.encoding.specs.Encoding.{zonesFrom, workFrom, placeFrom, placesIn, stateFrom, workCoded, encodes, each, zoneBytes, kindOf, strideOf, placeBytes, bytesOf}
+use Rattle.encoding.specs.Encoding.{zonesFrom, workFrom, dropsFrom, placeFrom, placesIn, stateFrom, workCoded, dropsCoded, placesCoded, encodes, each, zoneBytes, kindOf, strideOf, dropByte, dropBytes, placeBytes, bytesOf}
 use Rattle.encoding.specs.Each.{each-append, each-one}
 
 -- ---- the n bytes of xs from a on
@@ -40,6 +41,26 @@ halves-words n (x ∷ y ∷ ys) h b =
     let e : (x + 256 * y) % 256 ≡ x = omega arith in
     let f : (x + 256 * y) / 256 ≡ y = omega arith in
     rw (e, f, halves-words (n - 1) ys (omega arith) (b .1 .1))
+
+-- ---- drops that are 0 or 1
+drop-back : (x : ℕ) → x < 2 → dropByte (eqb x 1) ≡ x
+drop-back zero h = refl
+drop-back (suc zero) h = refl
+drop-back (suc (suc x)) h = absurd (omega arith)
+
+drops-back : (ys : List ℕ) → dropsCoded ys ≡ true → dropBytes (dropsFrom ys) ≡ ys
+unfolding dropsCoded dropBytes dropsFrom all
+drops-back [] e = refl
+drops-back (y ∷ ys) e = rw (drop-back y (ltb-true y 2 (and-left (ltb y 2) _ e)), drops-back ys (and-right (ltb y 2) _ e))
+
+place-coded : (xs : List ℕ) (n i : ℕ) → i < n → placesCoded xs n ≡ true → dropsCoded (part (278 + 325 * i + 261) 64 xs) ≡ true
+unfolding placesCoded
+place-coded xs zero i h e = absurd (omega arith)
+place-coded xs (suc n) i h e = go (eqb-cases i n) (λ l. place-coded xs n i l (and-left (placesCoded xs n) _ e))
+  where
+    go : Is i n → (i < n → dropsCoded (part (278 + 325 * i + 261) 64 xs) ≡ true) → dropsCoded (part (278 + 325 * i + 261) 64 xs) ≡ true
+    go (inl (k, _)) f = rw k (and-right (placesCoded xs n) _ e)
+    go (inr (k, _)) f = f (omega arith)
 
 -- ---- a work that goes with its stride number
 work-back : (kind stride : ℕ) → workCoded kind stride ≡ true → (kindOf (workFrom kind stride) ≡ kind) × (strideOf (workFrom kind stride) ≡ stride)
@@ -100,7 +121,7 @@ module _ (xs : List ℕ) where
     halves-tile : (a n : ℕ) → a + 2 * n ≤ length xs → Tile xs a (2 * n) (each bytes16 (words (part a (2 * n) xs)))
     halves-tile a n h = record { is = halves-words n (part a (2 * n) xs) (length-part a (2 * n) xs h) (part-bytes a (2 * n)) }
 
-    module _ (l : length xs ≡ 2366) where
+    module _ (l : length xs ≡ 2878) where
       -- ---- the zones, a place, the places
       zones-tile : Tile xs 6 259 (zoneBytes (zonesFrom xs))
       unfolding zoneBytes zonesFrom
@@ -110,30 +131,34 @@ module _ (xs : List ℕ) where
           let three = join (join two (record { is = refl }) refl) (byte-tile 263 (omega arith)) refl in
           join three (byte-tile 264 (omega arith)) refl
 
-      place-tile : (i : ℕ) → i < 8 → Tile xs (278 + 261 * i) 261 (placeBytes (placeFrom xs i))
-      unfolding placeBytes placeFrom
-      place-tile i h =
-          let one = join (word-tile (278 + 261 * i) (omega arith)) (byte-tile (278 + 261 * i + 4) (omega arith)) refl in
-          let two = join one (halves-tile (278 + 261 * i + 5) 64 (omega arith)) (omega arith) in
-          join two (halves-tile (278 + 261 * i + 133) 64 (omega arith)) (omega arith)
+      module _ (d : placesCoded xs 8 ≡ true) where
+        place-tile : (i : ℕ) → i < 8 → Tile xs (278 + 325 * i) 325 (placeBytes (placeFrom xs i))
+        unfolding placeBytes placeFrom
+        place-tile i h =
+            let one = join (word-tile (278 + 325 * i) (omega arith)) (byte-tile (278 + 325 * i + 4) (omega arith)) refl in
+            let two = join one (halves-tile (278 + 325 * i + 5) 64 (omega arith)) (omega arith) in
+            let three = join two (halves-tile (278 + 325 * i + 133) 64 (omega arith)) (omega arith) in
+            join three (record { is = drops-back _ (place-coded xs 8 i h d) }) (omega arith)
 
-      places-tile : (n : ℕ) → n ≤ 8 → Tile xs 278 (261 * n) (each placeBytes (placesIn xs n))
-      unfolding placesIn each part
-      places-tile zero h = record { is = refl }
-      places-tile (suc n) h =
-          let e : each placeBytes (placesIn xs n ++ (placeFrom xs n ∷ [])) ≡ each placeBytes (placesIn xs n) ++ placeBytes (placeFrom xs n) =
-          each-append placeBytes (placesIn xs n) (placeFrom xs n ∷ []) ∙ ap (λ (t : List ℕ). each placeBytes (placesIn xs n) ++ t) (each-one placeBytes (placeFrom xs n)) in
-          rw (mul-suc 261 n, e) (join (places-tile n (omega arith)) (place-tile n (omega arith)) refl)
+        places-tile : (n : ℕ) → n ≤ 8 → Tile xs 278 (325 * n) (each placeBytes (placesIn xs n))
+        unfolding placesIn each part
+        places-tile zero h = record { is = refl }
+        places-tile (suc n) h =
+            let e : each placeBytes (placesIn xs n ++ (placeFrom xs n ∷ [])) ≡ each placeBytes (placesIn xs n) ++ placeBytes (placeFrom xs n) =
+            each-append placeBytes (placesIn xs n) (placeFrom xs n ∷ []) ∙ ap (λ (t : List ℕ). each placeBytes (placesIn xs n) ++ t) (each-one placeBytes (placeFrom xs n)) in
+            rw (mul-suc 325 n, e) (join (places-tile n (omega arith)) (place-tile n (omega arith)) refl)
 
 -- ---- the law
 pub bytes-back : (xs : List ℕ) → encodes xs ≡ true → Bytes xs → bytesOf (stateFrom xs) ≡ xs
 unfolding encodes bytesOf stateFrom
 bytes-back xs e b =
-    let l = eqb-true (length xs) 2366 (and-left (eqb (length xs) 2366) _ e) in
-    let w = work-back (getD xs 275 0) (le16 xs 276) (and-right (eqb (length xs) 2366) _ e) in
+    let l = eqb-true (length xs) 2878 (and-left (eqb (length xs) 2878) _ e) in
+    let c = and-right (eqb (length xs) 2878) _ e in
+    let w = work-back (getD xs 275 0) (le16 xs 276) (and-left (workCoded (getD xs 275 0) (le16 xs 276)) _ c) in
+    let d = and-right (workCoded (getD xs 275 0) (le16 xs 276)) _ c in
     let one = join (join (half-tile xs b 0 (omega arith)) (half-tile xs b 2 (omega arith)) refl) (half-tile xs b 4 (omega arith)) refl in
     let two = join (join (join one (zones-tile xs b l) refl) (word-tile xs b 265 (omega arith)) refl) (word-tile xs b 269 (omega arith)) refl in
     let three = join (join two (byte-tile xs 273 (omega arith)) refl) (byte-tile xs 274 (omega arith)) refl in
     let four = join (join three (byte-tile xs 275 (omega arith)) refl) (half-tile xs b 276 (omega arith)) refl in
-    let all = join four (places-tile xs b l 8 (omega arith)) refl in
-    rw (w .0, w .1) (all .is ∙ part-all 2366 xs l)
+    let all = join four (places-tile xs b l d 8 (omega arith)) refl in
+    rw (w .0, w .1) (all .is ∙ part-all 2878 xs l)

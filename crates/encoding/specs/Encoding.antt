@@ -1,11 +1,11 @@
--- A state as 2,366 bytes, and the state that such bytes say. Where each field stands is said in src/lib.rt.
+-- A state as 2,878 bytes, and the state that such bytes say. Where each field stands is said in src/lib.rt.
 use mathlib.Core.Path.{_≡_}
 use Prim.Native.Nat.{ℕ, zero, suc, _+_, _*_, _≤_}
-use mathlib.Core.Bool.{Bool, cond, _&&_, _||_}
-use mathlib.Core.List.{List, [], _∷_, _++_}
+use mathlib.Core.Bool.{Bool, true, false, cond, _&&_, _||_}
+use mathlib.Core.List.{List, [], _∷_, _++_, map}
 use lib.ListN.{length, getD}
-use lib.Dec.{eqb}
-use Rattle.model.specs.Lists.{part, splice}
+use lib.Dec.{eqb, ltb}
+use Rattle.model.specs.Lists.{all, part, splice}
 use Rattle.model.specs.Bytes.{le16, le32, bytes16, bytes32, words}
 use Rattle.model.specs.declared.Place.{Place}
 use Rattle.model.specs.declared.Zones.{Zones}
@@ -31,14 +31,19 @@ zonesFrom xs =
 unfoldable pub workFrom : ℕ → ℕ → Work
 workFrom kind stride = cond (eqb kind 1) (Format stride) (cond (eqb kind 2) (Checkpoint stride) (cond (eqb kind 3) Reclaim Idle))
 
+-- the drops: which pages drop their logical page, a byte each
+unfoldable pub dropsFrom : List ℕ → List Bool
+dropsFrom xs = map (λ (x : ℕ). eqb x 1) xs
+
 -- place i
 unfoldable pub placeFrom : List ℕ → ℕ → Place
 placeFrom xs i =
     record {
-      id = le32 xs (278 + 261 * i);
-      count = getD xs (278 + 261 * i + 4) 0;
-      lpns = words (part (278 + 261 * i + 5) 128 xs);
-      ppns = words (part (278 + 261 * i + 133) 128 xs);
+      id = le32 xs (278 + 325 * i);
+      count = getD xs (278 + 325 * i + 4) 0;
+      lpns = words (part (278 + 325 * i + 5) 128 xs);
+      ppns = words (part (278 + 325 * i + 133) 128 xs);
+      drops = dropsFrom (part (278 + 325 * i + 261) 64 xs);
     }
 
 -- the first n places
@@ -64,9 +69,18 @@ stateFrom xs =
 unfoldable pub workCoded : ℕ → ℕ → Bool
 workCoded kind stride = eqb kind 1 || (eqb kind 2 || (eqb stride 0 && (eqb kind 0 || eqb kind 3)))
 
+-- drops of which every one is 0 or 1
+unfoldable pub dropsCoded : List ℕ → Bool
+dropsCoded xs = all (λ (x : ℕ). ltb x 2) xs
+
+-- those of the first n places
+unfoldable pub placesCoded : List ℕ → ℕ → Bool
+placesCoded xs zero = true
+placesCoded xs (suc n) = placesCoded xs n && dropsCoded (part (278 + 325 * n + 261) 64 xs)
+
 -- whether bytes encode a state
 unfoldable pub encodes : List ℕ → Bool
-encodes xs = eqb (length xs) 2366 && workCoded (getD xs 275 0) (le16 xs 276)
+encodes xs = eqb (length xs) 2878 && (workCoded (getD xs 275 0) (le16 xs 276) && placesCoded xs 8)
 
 -- ---- to bytes
 -- the bytes of each, one after the other
@@ -93,9 +107,17 @@ strideOf (Format k) = k
 strideOf (Checkpoint k) = k
 strideOf Reclaim = 0
 
+-- a drop, and drops one after the other
+abbrev pub dropByte : Bool → ℕ
+dropByte true = 1
+dropByte false = 0
+
+unfoldable pub dropBytes : List Bool → List ℕ
+dropBytes ds = map dropByte ds
+
 -- a place
 unfoldable pub placeBytes : Place → List ℕ
-placeBytes p = bytes32 (p .id) ++ (p .count ∷ []) ++ each bytes16 (p .lpns) ++ each bytes16 (p .ppns)
+placeBytes p = bytes32 (p .id) ++ (p .count ∷ []) ++ each bytes16 (p .lpns) ++ each bytes16 (p .ppns) ++ dropBytes (p .drops)
 
 -- the state
 unfoldable pub bytesOf : State → List ℕ

@@ -1,13 +1,13 @@
 -- The bytes of a state encode one, and say that very state. Assumes nothing.
 use mathlib.Core.Path.{_≡_, refl, sym, ap, _∙_}
-use mathlib.Core.Bool.{true}
+use mathlib.Core.Bool.{Bool, true, false}
 use mathlib.Core.List.{List, [], _∷_, _++_, append-assoc, append-nil}
 use Prim.Native.Nat.{ℕ, suc, _+_, _*_, _/_, _%_}
 use native.Mathlib.Omega.{arith}
-use lib.ListN.{length, take, drop, getD, length-append}
+use lib.ListN.{length, take, drop, getD, length-append, length-map}
 use lib.Seq.{drop-drop, take-at, drop-at, getD-drop}
 use borrow.Author.Tests.{eq-eqb}
-use Rattle.model.specs.Lists.{part}
+use Rattle.model.specs.Lists.{all, part}
 use Rattle.model.specs.Bytes.{le16, le32, bytes16, bytes32, words}
 use Rattle.model.specs.Frame.{freePlace, freshState}
 use Rattle.model.specs.declared.Geometry.{Geometry}
@@ -16,12 +16,14 @@ use Rattle.model.specs.declared.Zones.{Zones}
 use Rattle.model.specs.declared.State.{State}
 use Rattle.model.specs.declared.Work.{Work}
 use Rattle.model.specs.declared.Work.the-variants.{Idle, Format, Checkpoint, Reclaim}
-use Rattle.encoding.specs.Encoding.{zonesFrom, workFrom, placeFrom, placesIn, stateFrom, workCoded, encodes, each, zoneBytes, kindOf, strideOf, placeBytes, bytesOf}
+use Rattle.arrays.specs.Tests.{and-both}
+use Rattle.encoding.specs.Encoding.{zonesFrom, workFrom, dropsFrom, placeFrom, placesIn, stateFrom, workCoded, dropsCoded, placesCoded, encodes, each, zoneBytes, kindOf, strideOf, dropByte, dropBytes, placeBytes, bytesOf}
 
 -- ---- lists as long as the types have them
 pub record PlaceShaped (p : Place) : Type 0 where
   pub lpns : length (p .lpns) ≡ 64
   pub ppns : length (p .ppns) ≡ 64
+  pub drops : length (p .drops) ≡ 64
 
 abbrev pub PlacesShaped : List Place → Type 0
 PlacesShaped [] = Unit {0}
@@ -83,6 +85,22 @@ length-halves (x ∷ ls) = let e = length-halves ls in omega arith
 halves-read : {xs : List ℕ} {a : ℕ} (ls zs : List ℕ) → From xs a (each bytes16 ls ++ zs) → length ls ≡ 64 → words (part a 128 xs) ≡ ls
 halves-read ls zs f h = ap words (part-read (each bytes16 ls) zs 128 f (length-halves ls ∙ (omega arith))) ∙ words-halves ls
 
+drops-said : (ds : List Bool) → dropsFrom (dropBytes ds) ≡ ds
+unfolding dropsFrom dropBytes
+drops-said [] = refl
+drops-said (true ∷ ds) = ap (λ (t : List Bool). true ∷ t) (drops-said ds)
+drops-said (false ∷ ds) = ap (λ (t : List Bool). false ∷ t) (drops-said ds)
+
+drops-coded : (ds : List Bool) → dropsCoded (dropBytes ds) ≡ true
+unfolding dropsCoded dropBytes all
+drops-coded [] = refl
+drops-coded (true ∷ ds) = drops-coded ds
+drops-coded (false ∷ ds) = drops-coded ds
+
+length-drops : (ds : List Bool) → length (dropBytes ds) ≡ length ds
+unfolding dropBytes
+length-drops ds = length-map ds dropByte
+
 -- ---- a work, the zones, a place, the places
 work-read : (w : Work) → workFrom (kindOf w) (strideOf w) ≡ w
 unfolding workFrom
@@ -112,33 +130,51 @@ zones-read {xs} z r ha hu hf f =
     let nf = past (z .free) f4 126 g hf in
     rw (part-read (z .available) (z .na ∷ f2) 3 a ha, byte-read na, part-read (z .unavailable) (z .nu ∷ f3) 126 u hu, byte-read nu, part-read (z .free) f4 126 g hf, byte-read nf, byte-read (behind nf))
 
-place-read : {xs : List ℕ} (i : ℕ) (p : Place) (r : List ℕ) → PlaceShaped p → From xs (278 + 261 * i) (placeBytes p ++ r) → placeFrom xs i ≡ p
+place-read : {xs : List ℕ} (i : ℕ) (p : Place) (r : List ℕ) → PlaceShaped p → From xs (278 + 325 * i) (placeBytes p ++ r)
+    → (placeFrom xs i ≡ p) × (dropsCoded (part (278 + 325 * i + 261) 64 xs) ≡ true)
 unfolding placeBytes placeFrom
 place-read {xs} i p r h f =
-    let q = each bytes16 (p .ppns) ++ r in
+    let s = dropBytes (p .drops) ++ r in
+    let q = each bytes16 (p .ppns) ++ s in
     let a = regroup (bytes32 (p .id) ++ (p .count ∷ (each bytes16 (p .lpns) ++ q))) f (simp append-assoc) in
     let c = past (bytes32 (p .id)) (p .count ∷ (each bytes16 (p .lpns) ++ q)) 4 a refl in
-    let l = moved (278 + 261 * i + 5) (behind c) (omega arith) in
-    let m = moved (278 + 261 * i + 133) (past (each bytes16 (p .lpns)) q 128 l (length-halves (p .lpns) ∙ (let k = h .lpns in omega arith))) (omega arith) in
-    rw (word-read (p .id) (p .count ∷ (each bytes16 (p .lpns) ++ q)) a, byte-read c, halves-read (p .lpns) q l (h .lpns), halves-read (p .ppns) r m (h .ppns))
+    let l = moved (278 + 325 * i + 5) (behind c) (omega arith) in
+    let m = moved (278 + 325 * i + 133) (past (each bytes16 (p .lpns)) q 128 l (length-halves (p .lpns) ∙ (let k = h .lpns in omega arith))) (omega arith) in
+    let n = moved (278 + 325 * i + 261) (past (each bytes16 (p .ppns)) s 128 m (length-halves (p .ppns) ∙ (let k = h .ppns in omega arith))) (omega arith) in
+    let d = part-read (dropBytes (p .drops)) r 64 n (length-drops (p .drops) ∙ h .drops) in
+    let e : placeFrom xs i ≡ p =
+    rw (word-read (p .id) (p .count ∷ (each bytes16 (p .lpns) ++ q)) a, byte-read c, halves-read (p .lpns) q l (h .lpns), halves-read (p .ppns) s m (h .ppns), d, drops-said (p .drops)) in
+    (e, rw d (drops-coded (p .drops)))
 
-length-place : (p : Place) → PlaceShaped p → length (placeBytes p) ≡ 261
+length-place : (p : Place) → PlaceShaped p → length (placeBytes p) ≡ 325
 unfolding placeBytes
 length-place p h =
     let k = h .lpns in
     let m = h .ppns in
-    simp (length-append, length-halves) (omega arith)
+    let d = h .drops in
+    simp (length-append, length-halves, length-drops) (omega arith)
 
-places-read : {xs : List ℕ} (ps : List Place) (i : ℕ) → PlacesShaped ps → From xs (278 + 261 * i) (each placeBytes ps) → placesIn xs (length ps + i) ≡ placesIn xs i ++ ps
+-- where the next place stands
+next : {xs : List ℕ} (p : Place) (ps : List Place) (i : ℕ) → PlaceShaped p → From xs (278 + 325 * i) (each placeBytes (p ∷ ps)) → From xs (278 + 325 * suc i) (each placeBytes ps)
+unfolding each
+next p ps i h f = moved (278 + 325 * suc i) (past (placeBytes p) (each placeBytes ps) 325 f (length-place p h)) (omega arith)
+
+places-read : {xs : List ℕ} (ps : List Place) (i : ℕ) → PlacesShaped ps → From xs (278 + 325 * i) (each placeBytes ps) → placesIn xs (length ps + i) ≡ placesIn xs i ++ ps
 unfolding placesIn each
 places-read {xs} [] i h f = let z : 0 + i ≡ i = omega arith in ap (placesIn xs) z ∙ sym (append-nil (placesIn xs i))
 places-read {xs} (p ∷ ps) i h f =
     let n : length (p ∷ ps) + i ≡ length ps + suc i = omega arith in
-    let g = moved (278 + 261 * suc i) (past (placeBytes p) (each placeBytes ps) 261 f (length-place p (h .0))) (omega arith) in
-    ap (placesIn xs) n ∙ places-read ps (suc i) (h .1) g ∙ ap (λ (q : Place). (placesIn xs i ++ (q ∷ [])) ++ ps) (place-read i p (each placeBytes ps) (h .0) f)
-    ∙ append-assoc (placesIn xs i) (p ∷ []) ps
+    ap (placesIn xs) n ∙ places-read ps (suc i) (h .1) (next p ps i (h .0) f)
+    ∙ ap (λ (q : Place). (placesIn xs i ++ (q ∷ [])) ++ ps) (place-read i p (each placeBytes ps) (h .0) f .0) ∙ append-assoc (placesIn xs i) (p ∷ []) ps
 
-length-places : (ps : List Place) → PlacesShaped ps → length (each placeBytes ps) ≡ 261 * length ps
+places-coded : {xs : List ℕ} (ps : List Place) (i : ℕ) → PlacesShaped ps → From xs (278 + 325 * i) (each placeBytes ps) → placesCoded xs i ≡ true → placesCoded xs (length ps + i) ≡ true
+unfolding placesCoded each
+places-coded {xs} [] i h f e = let z : 0 + i ≡ i = omega arith in rw z e
+places-coded {xs} (p ∷ ps) i h f e =
+    let n : length (p ∷ ps) + i ≡ length ps + suc i = omega arith in
+    rw n (places-coded ps (suc i) (h .1) (next p ps i (h .0) f) (and-both (placesCoded xs i) _ e (place-read i p (each placeBytes ps) (h .0) f .1)))
+
+length-places : (ps : List Place) → PlacesShaped ps → length (each placeBytes ps) ≡ 325 * length ps
 unfolding each
 length-places [] h = refl
 length-places (p ∷ ps) h =
@@ -191,6 +227,12 @@ module _ (s : State) (h : Shaped s) where
       let n : 8 ≡ length (s .places) + 0 = omega arith in
       ap (placesIn (bytesOf s)) n ∙ places-read (s .places) 0 (h .each) places
 
+  all-coded : placesCoded (bytesOf s) 8 ≡ true
+  all-coded =
+      let k = h .places in
+      let n : 8 ≡ length (s .places) + 0 = omega arith in
+      rw n (places-coded (s .places) 0 (h .each) places (unfold placesCoded in refl))
+
   the-work : workFrom (getD (bytesOf s) 275 0) (le16 (bytesOf s) 276) ≡ s .work
   the-work = rw (byte-read work, half-read (strideOf (s .work)) (each placeBytes (s .places)) (behind work)) (work-read (s .work))
 
@@ -211,7 +253,7 @@ module _ (s : State) (h : Shaped s) where
         all-places,
       )
 
-  length-bytes : length (bytesOf s) ≡ 2366
+  length-bytes : length (bytesOf s) ≡ 2878
   unfolding bytesOf
   length-bytes =
       let z = length-zones in
@@ -222,7 +264,7 @@ module _ (s : State) (h : Shaped s) where
   -- and its bytes encode one
   pub coded-back : encodes (bytesOf s) ≡ true
   unfolding encodes
-  coded-back = rw (eq-eqb _ _ length-bytes, byte-read work, half-read (strideOf (s .work)) (each placeBytes (s .places)) (behind work)) (work-coded (s .work))
+  coded-back = rw (eq-eqb _ _ length-bytes, byte-read work, half-read (strideOf (s .work)) (each placeBytes (s .places)) (behind work), work-coded (s .work)) all-coded
 
 -- the state that format and recover start from is one of them
 pub fresh-shaped : (g : Geometry) → Shaped (freshState g)
@@ -230,4 +272,4 @@ unfolding freshState
 fresh-shaped g = record { available = refl; unavailable = refl; free = refl; places = refl; each = (p, (p, (p, (p, (p, (p, (p, (p, tt)))))))) }
   where
     p : PlaceShaped freePlace
-    p = record { lpns = refl; ppns = refl }
+    p = record { lpns = refl; ppns = refl; drops = refl }

@@ -1,15 +1,16 @@
-// A state as 2,366 bytes, for callers in C or Rust, and back. Numbers are little-endian, and nothing is left between them.
+// A state as 2,878 bytes, for callers in C or Rust, and back. Numbers are little-endian, and nothing is left between them.
 // 0 blocks (2 bytes), 2 pages (2), 4 logical pages (2); 6 the 3 available blocks, 9 their count, 10 the 126 unavailable ones, 136 their
 // count, 137 the 126 free ones, 263 their count, 264 the pointer; 265 last version (4), 269 checkpoint number (4), 273 front block,
 // 274 first page, 275 the kind of the work under way (0 none, 1 format, 2 checkpoint, 3 reclaim), 276 its stride number (2); from 278 on
-// 8 places of 261 bytes, each its identifier (4), its count, 64 logical pages (2 each) and 64 pages (2 each).
-// Bytes encode a state if they are so many, the kind is one of these, and the stride number of a kind that has none is 0.
+// 8 places of 325 bytes, each its identifier (4), its count, 64 logical pages (2 each), 64 pages (2 each) and 64 drops (1 each): whether the
+// page drops its logical page, 0 or 1.
+// Bytes encode a state if they are so many, the kind is one of these, the stride number of a kind that has none is 0, and every drop is 0 or 1.
 ghost use mathlib.Core.Path.{_≡_};
 ghost use Prim.Native.Nat.{_+_, _*_, _≤_, _<_};
 ghost use lib.ListN.{length};
 ghost use Rattle.model.specs.Lists.{part};
 ghost use Rattle.model.specs.Bytes.{bytes16, bytes32, words};
-ghost use Rattle.encoding.specs.Encoding.{zonesFrom, workFrom, placeFrom, placesIn, stateFrom, workCoded, encodes, each, zoneBytes, kindOf, strideOf, placeBytes, bytesOf, Laid};
+ghost use Rattle.encoding.specs.Encoding.{zonesFrom, workFrom, dropsFrom, placeFrom, placesIn, stateFrom, workCoded, dropsCoded, placesCoded, encodes, each, zoneBytes, kindOf, strideOf, dropBytes, placeBytes, bytesOf, Laid};
 use model::Geometry;
 use model::Place;
 use model::State;
@@ -35,14 +36,45 @@ fn work_coded(kind: u8, stride: u16) -> bool
     kind == 3
 }
 
+/// Whether each of the 64 bytes from `at` on is 0 or 1. The loop has no other way out, so many bytes are taken at once.
+fn drops_coded(from: &[u8], at: usize) -> bool
+    requires { ⌜ at + 64 ≤ length (now from) ⌝ }
+    ensures { λ r. ⌜ r ≡ dropsCoded (part at 64 (now (from .entry))) ⌝ }
+{
+    let mut coded = true;
+    let mut i: usize = 0;
+    while i < Place::PAGES {
+        coded = coded & (from[at + i] < 2);
+        i += 1;
+    }
+    coded
+}
+
+/// Whether every drop is 0 or 1, of all places.
+fn places_coded(from: &[u8]) -> bool
+    requires { ⌜ length (now from) ≡ 2878 ⌝ }
+    ensures { λ r. ⌜ r ≡ placesCoded (now (from .entry)) 8 ⌝ }
+{
+    let mut coded = true;
+    let mut place: usize = 0;
+    while place < State::PLACES {
+        coded = coded & drops_coded(from, 278 + 325 * place + 261);
+        place += 1;
+    }
+    coded
+}
+
 /// Whether the bytes encode a state.
 pub fn encodes(from: &[u8]) -> bool
     ensures { λ r. ⌜ r ≡ encodes (now (from .entry)) ⌝ }
 {
-    if from.len() != 2366 {
+    if from.len() != 2878 {
         return false;
     }
-    work_coded(from[275], page::word16(from, 276))
+    if !work_coded(from[275], page::word16(from, 276)) {
+        return false;
+    }
+    places_coded(from)
 }
 
 /// Fills the list with the bytes from `at` on.
@@ -69,9 +101,21 @@ fn load_halves(from: &[u8], at: usize, list: &mut [u16])
     }
 }
 
+/// Fills the list with the drops from `at` on.
+fn load_drops(from: &[u8], at: usize, list: &mut [bool])
+    requires { ⌜ at + length (now list) ≤ length (now from) ⌝ }
+    ensures { λ _. ⌜ now (list .exit) ≡ dropsFrom (part at (length (now (list .entry))) (now (from .entry))) ⌝ }
+{
+    let mut i: usize = 0;
+    while i < list.len() {
+        list[i] = from[at + i] == 1;
+        i += 1;
+    }
+}
+
 /// The zones among the bytes.
 fn load_zones(from: &[u8]) -> Zones
-    requires { ⌜ length (now from) ≡ 2366 ⌝ }
+    requires { ⌜ length (now from) ≡ 2878 ⌝ }
     ensures { λ r. ⌜ r ≡ zonesFrom (now (from .entry)) ⌝ }
 {
     let mut available = [0u8; 3];
@@ -109,25 +153,28 @@ fn load_work(kind: u8, stride: u16) -> Work
 
 /// Place i among the bytes.
 fn load_place(from: &[u8], i: usize) -> Place
-    requires { ⌜ (length (now from) ≡ 2366) × (i < 8) ⌝ }
+    requires { ⌜ (length (now from) ≡ 2878) × (i < 8) ⌝ }
     ensures { λ r. ⌜ r ≡ placeFrom (now (from .entry)) i ⌝ }
 {
-    let at = 278 + 261 * i;
+    let at = 278 + 325 * i;
     let mut lpns = [0u16; Place::PAGES];
     load_halves(from, at + 5, &mut lpns);
     let mut ppns = [0u16; Place::PAGES];
     load_halves(from, at + 133, &mut ppns);
+    let mut drops = [false; Place::PAGES];
+    load_drops(from, at + 261, &mut drops);
     Place {
         id: page::word32(from, at),
         count: from[at + 4],
         lpns,
         ppns,
+        drops,
     }
 }
 
 /// The places among the bytes.
 fn load_places(from: &[u8]) -> [Place; State::PLACES]
-    requires { ⌜ length (now from) ≡ 2366 ⌝ }
+    requires { ⌜ length (now from) ≡ 2878 ⌝ }
     ensures { λ r. ⌜ r ≡ placesIn (now (from .entry)) 8 ⌝ }
 {
     [
@@ -144,7 +191,7 @@ fn load_places(from: &[u8]) -> [Place; State::PLACES]
 
 /// The state that the bytes say.
 pub fn load(from: &[u8]) -> State
-    requires { ⌜ length (now from) ≡ 2366 ⌝ }
+    requires { ⌜ length (now from) ≡ 2878 ⌝ }
     ensures { λ r. ⌜ r ≡ stateFrom (now (from .entry)) ⌝ }
 {
     let geometry = Geometry {
@@ -211,9 +258,21 @@ fn put_halves(to: &mut [u8], at: usize, list: &[u16])
     }
 }
 
+/// Puts drops from `at` on.
+fn put_drops(to: &mut [u8], at: usize, list: &[bool])
+    requires { ⌜ at + length (now list) ≤ length (now to) ⌝ }
+    ensures { λ _. ⌜ Laid (now (to .entry)) at (length (now (list .entry))) (dropBytes (now (list .entry))) (now (to .exit)) ⌝ }
+{
+    let mut i: usize = 0;
+    while i < list.len() {
+        to[at + i] = list[i] as u8;
+        i += 1;
+    }
+}
+
 /// Puts the zones among the bytes.
 fn put_zones(to: &mut [u8], z: Zones)
-    requires { ⌜ length (now to) ≡ 2366 ⌝ }
+    requires { ⌜ length (now to) ≡ 2878 ⌝ }
     ensures { λ _. ⌜ Laid (now (to .entry)) 6 259 (zoneBytes z) (now (to .exit)) ⌝ }
 {
     put_bytes(to, 6, &z.available);
@@ -251,20 +310,21 @@ fn stride_of(work: Work) -> u16
 
 /// Puts place i among the bytes.
 fn put_place(to: &mut [u8], i: usize, p: Place)
-    requires { ⌜ (length (now to) ≡ 2366) × (i < 8) ⌝ }
-    ensures { λ _. ⌜ Laid (now (to .entry)) (278 + 261 * i) 261 (placeBytes p) (now (to .exit)) ⌝ }
+    requires { ⌜ (length (now to) ≡ 2878) × (i < 8) ⌝ }
+    ensures { λ _. ⌜ Laid (now (to .entry)) (278 + 325 * i) 325 (placeBytes p) (now (to .exit)) ⌝ }
 {
-    let at = 278 + 261 * i;
+    let at = 278 + 325 * i;
     put_word(to, at, p.id);
     to[at + 4] = p.count;
     put_halves(to, at + 5, &p.lpns);
     put_halves(to, at + 133, &p.ppns);
+    put_drops(to, at + 261, &p.drops);
 }
 
 /// Puts the places among the bytes.
 fn put_places(to: &mut [u8], places: [Place; State::PLACES])
-    requires { ⌜ length (now to) ≡ 2366 ⌝ }
-    ensures { λ _. ⌜ Laid (now (to .entry)) 278 2088 (each placeBytes places) (now (to .exit)) ⌝ }
+    requires { ⌜ length (now to) ≡ 2878 ⌝ }
+    ensures { λ _. ⌜ Laid (now (to .entry)) 278 2600 (each placeBytes places) (now (to .exit)) ⌝ }
 {
     let mut i: usize = 0;
     while i < State::PLACES {
@@ -276,7 +336,7 @@ fn put_places(to: &mut [u8], places: [Place; State::PLACES])
 
 /// Puts a state as bytes.
 pub fn store(to: &mut [u8], s: State)
-    requires { ⌜ length (now to) ≡ 2366 ⌝ }
+    requires { ⌜ length (now to) ≡ 2878 ⌝ }
     ensures { λ _. ⌜ now (to .exit) ≡ bytesOf s ⌝ }
 {
     put_half(to, 0, s.geometry.blocks);

@@ -2,7 +2,7 @@
 -- says that every row holds.
 use Prim.Native.Nat.{ℕ, _+_, _-_, _*_}
 use mathlib.Core.Path.{_≡_, refl, ap, _∙_}
-use mathlib.Core.Bool.{cond}
+use mathlib.Core.Bool.{cond, false}
 use mathlib.Core.List.{List, [], _∷_, _++_}
 use lib.ListN.{drop, set, replicate}
 use Rattle.model.specs.Lists.{count, padTo}
@@ -77,7 +77,7 @@ filled n =
         front = 0;
         first = 0;
         work = Idle;
-        places = record { id = 5; count = 1; lpns = padTo 64 (3 ∷ []); ppns = replicate 64 0 } ∷ replicate 7 freePlace;
+        places = record { id = 5; count = 1; lpns = padTo 64 (3 ∷ []); ppns = replicate 64 0; drops = replicate 64 false } ∷ replicate 7 freePlace;
       };
     }
 

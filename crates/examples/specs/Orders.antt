@@ -15,10 +15,10 @@ use Rattle.model.specs.Checkpoint.{nothing, at, newest, loadOk}
 use Rattle.model.specs.Recovery.{pagesGood}
 use Rattle.model.specs.World.{World, none, Plan, refuse}
 use Rattle.model.specs.Frame.{noPlace, badId, lentOk, frameOk, isIdle, gate, freshState}
-use Rattle.model.specs.Transactions.{withPlace, placeOf, zoneShort, cleanPages, spent, begun, liveId, longestChange, writePlan, lonePlan, markPlan, forgetPlan, planBegin, planWrite, planLone, planCommit, planAbort, readAnswer}
+use Rattle.model.specs.Transactions.{withPlace, placeOf, zoneShort, cleanPages, spent, begun, liveId, longestChange, writePlan, addPlan, gone, lonePlan, markPlan, forgetPlan, planBegin, planWrite, planDrop, planLone, planCommit, planAbort, readAnswer}
 use Rattle.model.specs.Strides.{isCheckpoint, withWork, withZones, withNumber, mapStride, zoneStride, pageStride, otherStride, firstStride, checkpointStride, planCheckpoint, mappedIn, picked, lowestFrom, isReclaim, copyStride, freeStride, reclaimStride, planReclaim, stridesDone, formatWorkOk, formatMore, formatStride, planFormat}
 use Rattle.model.specs.Recover.{entriesAt, zonesAt, scannedAt, recoverFrom, planRecover}
-use Rattle.model.specs.Commands.{format, recover, begin, write, lone, commit, abort, read, checkpoint, reclaim, plan}
+use Rattle.model.specs.Commands.{format, recover, begin, write, dropPage, lone, commit, abort, read, checkpoint, reclaim, plan}
 use Rattle.model.specs.declared.Geometry.{Geometry}
 use Rattle.model.specs.declared.Place.{Place}
 
@@ -46,6 +46,28 @@ own-passes w f = rw f (go (isIdle (w .state .work)))
     go true = refl
     go false = refl
 
+-- ---- drop: "Its other checks are those of a write without 11"
+-- whatever the world, it answers what a write of 512 bytes answers
+pub drop-checks : (w : World) (id lpn : ℕ) (d : List ℕ) → eqb (length d) 512 ≡ true → plan (dropPage id lpn) w .answer ≡ plan (write id lpn d) w .answer
+unfolding plan planDrop planWrite addPlan writePlan
+drop-checks w id lpn d long =
+    let i = placeOf (w .state .places) id in
+    let p = getD (w .state .places) i noPlace in
+    rw long (same (eqb (gate false w) 0) (leb (w .state .geometry .logical) lpn) (leb 8 i) (leb longestChange (p .count)) (not (eqb (p .count) 0) && zoneShort w)
+    (writePlan i p lpn true gone w) (writePlan i p lpn false d w) refl)
+  where
+    -- 1 and 17, then 5, 8, 10, 12
+    checked : (t a b c e : Bool) → Plan → Plan
+    checked t a b c e p = cond t (cond a (refuse w 5) (cond b (refuse w 8) (cond c (refuse w 10) (cond e (refuse w 12) p)))) (refuse w (gate false w))
+
+    same : (t a b c e : Bool) (p q : Plan) → p .answer ≡ q .answer → checked t a b c e p .answer ≡ checked t a b c e q .answer
+    same false a b c e p q h = refl
+    same true true b c e p q h = refl
+    same true false true c e p q h = refl
+    same true false false true e p q h = refl
+    same true false false false true p q h = refl
+    same true false false false false p q h = h
+
 -- ---- each command, where 1 and 17 pass
 module _ (w : World) (pass : gate false w ≡ 0) where
   -- begin 6, 7, 9
@@ -72,12 +94,22 @@ module _ (w : World) (pass : gate false w ≡ 0) where
   write-11 id lpn d l = rw (pass, l) refl
 
   pub write-5 : (id lpn : ℕ) (d : List ℕ) → eqb (length d) 512 ≡ true → leb (w .state .geometry .logical) lpn ≡ true → plan (write id lpn d) w ≡ refuse w 5
-  unfolding plan planWrite
+  unfolding plan planWrite addPlan
   write-5 id lpn d l h = rw (pass, l, h) refl
+
+  -- a drop goes where a write does: its page is held, 512 bytes 0xFF, and counted
+  module _ (id lpn : ℕ) (in-range : leb (w .state .geometry .logical) lpn ≡ false) (open-at : leb 8 (placeOf (w .state .places) id) ≡ false) where
+    abbrev dropping : Place
+    dropping = getD (w .state .places) (placeOf (w .state .places) id) noPlace
+
+    pub drop-done : dropping .count < 41 → (not (eqb (dropping .count) 0) && zoneShort w) ≡ false
+        → plan (dropPage id lpn) w ≡ writePlan (placeOf (w .state .places) id) dropping lpn true gone w
+    unfolding plan planDrop addPlan
+    drop-done n z = rw (pass, in-range, open-at, lt-leb longestChange (dropping .count) (omega arith), z) refl
 
   module _ (id lpn : ℕ) (d : List ℕ) (long : eqb (length d) 512 ≡ true) (in-range : leb (w .state .geometry .logical) lpn ≡ false) where
     pub write-8 : leb 8 (placeOf (w .state .places) id) ≡ true → plan (write id lpn d) w ≡ refuse w 8
-    unfolding plan planWrite
+    unfolding plan planWrite addPlan
     write-8 h = rw (pass, long, in-range, h) refl
 
     module _ (open-at : leb 8 (placeOf (w .state .places) id) ≡ false) where
@@ -86,16 +118,16 @@ module _ (w : World) (pass : gate false w ≡ 0) where
 
       -- 10 from 41 pages on, whatever is clean
       pub write-10 : 41 ≤ place .count → plan (write id lpn d) w ≡ refuse w 10
-      unfolding plan planWrite
+      unfolding plan planWrite addPlan
       write-10 n = rw (pass, long, in-range, open-at, le-leb longestChange (place .count) (omega arith)) refl
 
       -- a page up to the 41st goes, and 12 is for a place with a held page alone
-      pub write-done : place .count < 41 → (not (eqb (place .count) 0) && zoneShort w) ≡ false → plan (write id lpn d) w ≡ writePlan (placeOf (w .state .places) id) place lpn d w
-      unfolding plan planWrite
+      pub write-done : place .count < 41 → (not (eqb (place .count) 0) && zoneShort w) ≡ false → plan (write id lpn d) w ≡ writePlan (placeOf (w .state .places) id) place lpn false d w
+      unfolding plan planWrite addPlan
       write-done n z = rw (pass, long, in-range, open-at, lt-leb longestChange (place .count) (omega arith), z) refl
 
       pub write-12 : place .count < 41 → eqb (place .count) 0 ≡ false → zoneShort w ≡ true → plan (write id lpn d) w ≡ refuse w 12
-      unfolding plan planWrite
+      unfolding plan planWrite addPlan
       write-12 n c z = rw (pass, long, in-range, open-at, lt-leb longestChange (place .count) (omega arith), c, z) refl
 
       pub write-41st : place .count ≡ 40 → zoneShort w ≡ false → plan (write id lpn d) w .answer ≡ 0
@@ -103,7 +135,7 @@ module _ (w : World) (pass : gate false w ≡ 0) where
       write-41st n z = ap (λ (p : Plan). p .answer) (write-done (omega (arith, n)) (rw (n, z) refl))
 
       pub write-first : place .count ≡ 0 → plan (write id lpn d) w .answer ≡ 0
-      unfolding plan planWrite writePlan
+      unfolding plan planWrite addPlan writePlan
       write-first n = rw (pass, long, in-range, open-at, n) refl
 
     -- lone write 11, 5, 13, 12

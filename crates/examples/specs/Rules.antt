@@ -9,6 +9,7 @@ use lib.ListN.{length, take, drop, getD, set, replicate}
 use lib.IntN.{ℤ, pos, negsuc}
 use lib.Dec.{eqb}
 use Rattle.model.specs.Lists.{all, upFrom, padTo}
+use Rattle.model.specs.Bytes.{allFF}
 use Rattle.model.specs.Page.{tornBy, spareOf, pageBytes, spareBytes}
 use Rattle.model.specs.Geometry.{geometryOk}
 use Rattle.model.specs.Zones.{Entry, Taken, zonesOf, listedIn, zoneListsOk, freeIndex, pastBlock, refill, slide, tornOf}
@@ -16,7 +17,7 @@ use Rattle.model.specs.Checkpoint.{Found, nothing, at, mapSpare, zoneSpare, map
 use Rattle.model.specs.Recovery.{entryGood, pagesGood, applied, redone}
 use Rattle.model.specs.World.{World}
 use Rattle.model.specs.Frame.{freePlace, placeOk, placesOk, formatStrideOk, checkpointStrideOk, workOk, freshState}
-use Rattle.model.specs.Transactions.{dataBytes, heldAt, holdWith, entered}
+use Rattle.model.specs.Transactions.{dataBytes, changeBytes, heldAt, holdWith, gone, entered}
 use Rattle.model.specs.Strides.{withWork, mappedIn, pickFrom, lowestFrom, stridesDone, formatWorkOk}
 use Rattle.model.specs.Commands.{format, plan}
 use Rattle.model.specs.declared.Geometry.{Geometry}
@@ -68,6 +69,7 @@ pub data Rule : Type 0 where
   load-rest : Rule
   page-passes : Rule
   page-kind : Rule
+  drop-passes : Rule
   page-reserved : Rule
   page-logical : Rule
   page-one-zero : Rule
@@ -91,6 +93,8 @@ pub data Rule : Type 0 where
   no-first-page : Rule
   hold-by-place : Rule
   later-holds : Rule
+  drop-unmaps : Rule
+  drop-bytes : Rule
   rising-versions : Rule
   long-passes : Rule
   long-entered : Rule
@@ -171,7 +175,7 @@ empty2 = replicate (2 * 528) 255
 
 -- a place of this identifier and count, with these logical pages and page numbers
 abbrev pub placed : ℕ → ℕ → List ℕ → List ℕ → Place
-placed id n ls ps = record { id = id; count = n; lpns = padTo 64 ls; ppns = padTo 64 ps }
+placed id n ls ps = record { id = id; count = n; lpns = padTo 64 ls; ppns = padTo 64 ps; drops = replicate 64 false }
 
 -- what a checkpoint makes of zones with the pointer at 4
 abbrev pub slid : List ℕ → List Place → List ℕ → List ℕ → List ℕ → List ℕ
@@ -197,6 +201,10 @@ zoneFine = 0 ∷ 0 ∷ 0 ∷ 0 ∷ 5 ∷ 2 ∷ 1 ∷ 2 ∷ 3 ∷ 2 ∷ 4 ∷ 5 �
 -- a scanned page
 abbrev pub entry : ℕ → ℕ → ℕ → ℕ → Entry
 entry lpn cnt id ver = record { ppn = 16; lpn = lpn; cnt = cnt; id = id; ver = ver; kind = 0; reserved = 0 }
+
+-- one of this kind, of logical page 3
+abbrev pub ofKind : ℕ → ℕ → ℕ → ℕ → Entry
+ofKind kind cnt id ver = record { ppn = 17; lpn = 3; cnt = cnt; id = id; ver = ver; kind = kind; reserved = 0 }
 
 -- whether refusal 4 passes it, L being 16, after those seen
 abbrev pub good : List Entry → Entry → ℕ
@@ -363,7 +371,8 @@ pageRows =
       gives = good [] (entry 15 0 5 0) ∷ good (entry 3 0 5 0 ∷ []) (entry 3 2 5 7) ∷ good (entry 3 1 0 6 ∷ []) (entry 3 1 0 0xFFFFFFFE) ∷ [];
       says = 1 ∷ 1 ∷ 1 ∷ [];
     }
-    ∷ record { rule = page-kind; gives = flag (entryGood 16 [] (record { ppn = 16; lpn = 3; cnt = 1; id = 0; ver = 7; kind = 1; reserved = 0 })) ∷ []; says = 0 ∷ [] }
+    ∷ record { rule = page-kind; gives = good [] (ofKind 1 1 0 7) ∷ good [] (ofKind 2 1 0 7) ∷ good [] (ofKind 4 1 0 7) ∷ good [] (ofKind 255 1 0 7) ∷ []; says = 0 ∷ 0 ∷ 0 ∷ 0 ∷ [] }
+    ∷ record { rule = drop-passes; gives = good [] (ofKind 3 0 5 0) ∷ good [] (ofKind 3 2 5 7) ∷ good [] (ofKind 3 1 0 7) ∷ good [] (ofKind 3 2 0 7) ∷ []; says = 1 ∷ 1 ∷ 1 ∷ 0 ∷ [] }
     ∷ record { rule = page-reserved; gives = flag (entryGood 16 [] (record { ppn = 16; lpn = 3; cnt = 1; id = 0; ver = 7; kind = 0; reserved = 1 })) ∷ []; says = 0 ∷ [] }
     ∷ record { rule = page-logical; gives = good [] (entry 16 1 0 7) ∷ []; says = 0 ∷ [] }
     ∷ record { rule = page-one-zero; gives = good [] (entry 3 0 5 7) ∷ good [] (entry 3 1 5 0) ∷ []; says = 0 ∷ 0 ∷ [] }
@@ -427,8 +436,26 @@ strideRows =
 abbrev pub changeRows : List Row
 changeRows =
     record { rule = hold-by-place; gives = take 2 (heldAt 1 twoHeld) ++ (take 2 (drop 511 (holdWith twoHeld 1 (replicate 512 9))) ++ (length (holdWith twoHeld 1 (replicate 512 9)) ∷ [])); says = 1 ∷ 1 ∷ 0 ∷ 9 ∷ 1024 ∷ [] }
-    ∷ record { rule = later-holds; gives = entered (65535 ∷ 65535 ∷ []) (1 ∷ 1 ∷ []) (16 ∷ 17 ∷ []) 2; says = 65535 ∷ 17 ∷ [] }
+    ∷ record { rule = later-holds; gives = entered (65535 ∷ 65535 ∷ []) (1 ∷ 1 ∷ []) (16 ∷ 17 ∷ []) (false ∷ false ∷ []) 2; says = 65535 ∷ 17 ∷ [] }
     ∷ record { rule = rising-versions; gives = versionsOf (applied 0 (entry 3 1 0 2 ∷ entry 3 1 0 1 ∷ [])); says = 1 ∷ 2 ∷ [] }
+    ∷ []
+
+-- ---- drops: document 02, "Applied at commit or recovery, it unmaps"; logical pages 0 and 1 are mapped, and the change has page 20 and 21
+-- at commit: of one page each; one page dropped and then written, and written and then dropped
+abbrev pub dropRows : List Row
+dropRows =
+    record { rule = drop-unmaps; gives = entered (16 ∷ 17 ∷ []) (0 ∷ 1 ∷ []) (20 ∷ 21 ∷ []) (true ∷ false ∷ []) 2; says = 65535 ∷ 21 ∷ [] }
+    ∷ record { rule = drop-unmaps; gives = entered (16 ∷ 17 ∷ []) (1 ∷ 1 ∷ []) (20 ∷ 21 ∷ []) (true ∷ false ∷ []) 2; says = 16 ∷ 21 ∷ [] }
+    ∷ record { rule = drop-unmaps; gives = entered (16 ∷ 17 ∷ []) (1 ∷ 1 ∷ []) (20 ∷ 21 ∷ []) (false ∷ true ∷ []) 2; says = 16 ∷ 65535 ∷ [] }
+    -- at recovery: a change whose mark is a drop, and one whose mark counts a page too many
+    ∷ record { rule = drop-unmaps; gives = redone 0 (entry 1 0 5 0 ∷ ofKind 3 2 5 7 ∷ []) (16 ∷ 17 ∷ 18 ∷ 19 ∷ []); says = 16 ∷ 16 ∷ 18 ∷ 65535 ∷ [] }
+    ∷ record { rule = drop-unmaps; gives = redone 0 (entry 1 0 5 0 ∷ ofKind 3 3 5 7 ∷ []) (16 ∷ 17 ∷ 18 ∷ 19 ∷ []); says = 16 ∷ 17 ∷ 18 ∷ 19 ∷ [] }
+    -- "a page of Kind 3, data all 0xFF": whether they are, and the spare area, with its 103 Zeros
+    ∷ record {
+      rule = drop-bytes;
+      gives = flag (allFF (take 512 (changeBytes gone true 3 1 7 1))) ∷ drop 512 (changeBytes gone true 3 1 7 1);
+      says = 1 ∷ 3 ∷ 0 ∷ 1 ∷ 0 ∷ 7 ∷ 0 ∷ 0 ∷ 0 ∷ 1 ∷ 0 ∷ 0 ∷ 0 ∷ 3 ∷ 0 ∷ 103 ∷ 0 ∷ [];
+    }
     ∷ []
 
 -- ---- a committed change of 41 pages, or more, in a scan: document 02, "must still recover in full"
@@ -526,7 +553,7 @@ load-rows = (refl, (refl, (refl, (refl, (refl, (refl, (refl, (refl, (refl, (refl
 
 page-rows : Every pageRows
 unfolding go
-page-rows = (refl, (refl, (refl, (refl, (refl, (refl, (refl, (refl, (refl, tt)))))))))
+page-rows = (refl, (refl, (refl, (refl, (refl, (refl, (refl, (refl, (refl, (refl, tt))))))))))
 
 place-rows : Every placeRows
 unfolding go
@@ -539,6 +566,10 @@ stride-rows = (refl, (refl, (refl, (refl, (refl, (refl, (refl, (refl, tt))))))))
 change-rows : Every changeRows
 unfolding go
 change-rows = (refl, (refl, (refl, tt)))
+
+drop-rows : Every dropRows
+unfolding go
+drop-rows = (refl, (refl, (refl, (refl, (refl, (refl, tt))))))
 
 long-rows : Every longRows
 unfolding go
@@ -565,7 +596,7 @@ format-rows = (ap only (format-answers (shape 7 8 8)), (ap only (format-answers 
 
 abbrev pub table : List (List Row)
 table =
-    freeRows ∷ slideRows ∷ reclaimRows ∷ checkpointRows ∷ newestRows ∷ loadRows ∷ pageRows ∷ placeRows ∷ strideRows ∷ changeRows ∷ longRows ∷ tornRows ∷ tornScanRows ∷ geometryRows ∷ formatRows ∷ []
+    freeRows ∷ slideRows ∷ reclaimRows ∷ checkpointRows ∷ newestRows ∷ loadRows ∷ pageRows ∷ placeRows ∷ strideRows ∷ changeRows ∷ dropRows ∷ longRows ∷ tornRows ∷ tornScanRows ∷ geometryRows ∷ formatRows ∷ []
 
 pub rules : EveryGroup table
-rules = (free-rows, (slide-rows, (reclaim-rows, (checkpoint-rows, (newest-rows, (load-rows, (page-rows, (place-rows, (stride-rows, (change-rows, (long-rows, (torn-rows, (torn-scan-rows, (geometry-rows, (format-rows, tt)))))))))))))))
+rules = (free-rows, (slide-rows, (reclaim-rows, (checkpoint-rows, (newest-rows, (load-rows, (page-rows, (place-rows, (stride-rows, (change-rows, (drop-rows, (long-rows, (torn-rows, (torn-scan-rows, (geometry-rows, (format-rows, tt))))))))))))))))

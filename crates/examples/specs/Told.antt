@@ -8,8 +8,8 @@ use lib.ListN.{set, replicate}
 use lib.Dec.{eqb}
 use Rattle.model.specs.Lists.{those}
 use Rattle.model.specs.World.{everyTurned}
-use Rattle.model.specs.Commands.{Call, format, recover, begin, write, lone, commit, abort, read, checkpoint, reclaim}
-use Rattle.model.specs.Book.{called, cutIn, cutBetween, Content, never, holds, Write, Change, Book, blank, enterAll, writesOf, addTo, close, entering, changing, tell}
+use Rattle.model.specs.Commands.{Call, format, recover, begin, write, dropPage, lone, commit, abort, read, checkpoint, reclaim}
+use Rattle.model.specs.Book.{called, cutIn, cutBetween, never, holds, Write, Change, Book, blank, enterAll, writesOf, addTo, close, entering, changing, tell}
 use Rattle.model.specs.declared.Geometry.{Geometry}
 
 -- "L pages, at first never written, and the open changes, at first none"
@@ -24,9 +24,14 @@ module _ (b : Book) where
   begin-opens id = refl
 
   -- "write adds to it"
-  pub write-adds : (id lpn : ℕ) (d : List ℕ) → tell b (called (write id lpn d) 0) ≡ record { pages = b .pages; changes = addTo id (record { lpn = lpn; bytes = d }) (b .changes) }
+  pub write-adds : (id lpn : ℕ) (d : List ℕ) → tell b (called (write id lpn d) 0) ≡ record { pages = b .pages; changes = addTo id (record { lpn = lpn; content = holds d }) (b .changes) }
   unfolding tell entering changing
   write-adds id lpn d = refl
+
+  -- "a drop is a write that leaves its page" never written
+  pub drop-adds : (id lpn : ℕ) → tell b (called (dropPage id lpn) 0) ≡ record { pages = b .pages; changes = addTo id (record { lpn = lpn; content = never }) (b .changes) }
+  unfolding tell entering changing
+  drop-adds id lpn = refl
 
   -- "commit enters its writes in the pages in order and closes it"
   pub commit-enters : (id : ℕ) → tell b (called (commit id) 0) ≡ record { pages = enterAll (b .pages) (writesOf id (b .changes)); changes = close id (b .changes) }
@@ -98,6 +103,7 @@ module _ (b : Book) where
   Enters (recover g) = entering (recover g) b ≡ b .pages
   Enters (begin id) = entering (begin id) b ≡ b .pages
   Enters (write id lpn d) = entering (write id lpn d) b ≡ b .pages
+  Enters (dropPage id lpn) = entering (dropPage id lpn) b ≡ b .pages
   Enters (lone lpn d) = entering (lone lpn d) b ≡ set (b .pages) lpn (holds d)
   Enters (commit id) = entering (commit id) b ≡ enterAll (b .pages) (writesOf id (b .changes))
   Enters (abort id) = entering (abort id) b ≡ b .pages
@@ -111,6 +117,7 @@ module _ (b : Book) where
   enters (recover g) = refl
   enters (begin id) = refl
   enters (write id lpn d) = refl
+  enters (dropPage id lpn) = refl
   enters (lone lpn d) = refl
   enters (commit id) = refl
   enters (abort id) = refl
@@ -120,7 +127,7 @@ module _ (b : Book) where
 
 -- ---- "each an identifier with its writes in order": changes 5 and 6, the writes of 5 both of logical page 1
 abbrev page1 : ℕ → Write
-page1 x = record { lpn = 1; bytes = x ∷ [] }
+page1 x = record { lpn = 1; content = holds (x ∷ []) }
 
 abbrev change : ℕ → List Write → Change
 change id ws = record { id = id; writes = ws }
@@ -134,6 +141,18 @@ added-last = refl
 pub entered-in-order : enterAll (never ∷ never ∷ []) (writesOf 5 (change 6 (page1 9 ∷ []) ∷ change 5 (page1 7 ∷ page1 8 ∷ []) ∷ [])) ≡ never ∷ holds (8 ∷ []) ∷ []
 unfolding enterAll writesOf
 entered-in-order = refl
+
+-- a drop after a write, and before one
+abbrev drop1 : Write
+drop1 = record { lpn = 1; content = never }
+
+pub dropped-in-order : enterAll (never ∷ holds (6 ∷ []) ∷ []) (page1 7 ∷ drop1 ∷ []) ≡ never ∷ never ∷ []
+unfolding enterAll
+dropped-in-order = refl
+
+pub written-in-order : enterAll (never ∷ holds (6 ∷ []) ∷ []) (drop1 ∷ page1 7 ∷ []) ≡ never ∷ holds (7 ∷ []) ∷ []
+unfolding enterAll
+written-in-order = refl
 
 -- and its own change is closed, no other
 pub closed-alone : close 5 (change 5 (page1 7 ∷ []) ∷ change 6 (page1 9 ∷ []) ∷ []) ≡ change 6 (page1 9 ∷ []) ∷ []

@@ -46,11 +46,16 @@ frame-sized w f =
     let i = frame-in w f in
     record { shape = and-left (geometryOk g) (lengthsOk g (w .array) (w .map) (w .hold)) (i .lent); bytes = i .lengths .array }
 
+-- a plan that refuses
+pub leaves : (w : World) (p : Plan) (n : ℕ) → p ≡ refuse w n → told w n (w .state) ≡ carried p w
+unfolding carried applyOp
+leaves w p n e = rw e
+
 module _ (w : World) (c : Call) where
   -- a refusal
   pub refuses : (n : ℕ) → plan c w ≡ refuse w n → told w n (w .state) ≡ exec c w
-  unfolding exec carried applyOp
-  refuses n p = rw p
+  unfolding exec
+  refuses n p = leaves w (plan c w) n p
 
   -- refusals 1 and 17, m being the number that is answered
   pub stops : (own : Bool) (n m : ℕ) → n ≡ gate own w → (n ≡ 0 → ⊥) → m ≡ cond (eqb n 17) 17 1 → plan c w ≡ refuse w n → told w m (w .state) ≡ exec c w

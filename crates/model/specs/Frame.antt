@@ -17,11 +17,11 @@ use Rattle.model.specs.declared.Work.the-variants.{Idle, Format, Checkpo
 
 -- ---- the places
 abbrev pub freePlace : Place
-freePlace = record { id = 0; count = 0; lpns = replicate 64 0; ppns = replicate 64 0 }
+freePlace = record { id = 0; count = 0; lpns = replicate 64 0; ppns = replicate 64 0; drops = replicate 64 false }
 
 -- what `getD` gives past the end of the places
 abbrev pub noPlace : Place
-noPlace = record { id = 0; count = 0; lpns = []; ppns = [] }
+noPlace = record { id = 0; count = 0; lpns = []; ppns = []; drops = [] }
 
 -- "an identifier 6 refuses": 0 or 0xFFFFFFFF
 unfoldable pub badId : ℕ → Bool

@@ -51,6 +51,11 @@ blankMap g = replicate (g .logical) unmapped
 abbrev pub enterPage : List ℕ → ℕ → ℕ → List ℕ
 enterPage map lpn ppn = set map lpn ppn
 
+-- where a page leads: to itself, or "it unmaps"
+abbrev pub leads : Bool → ℕ → ℕ
+leads true ppn = unmapped
+leads false ppn = ppn
+
 -- "map entry other than 0xFFFF outside the data blocks or repeated" is refused
 unfoldable pub entryOk : Geometry → List ℕ → ℕ → Bool
 entryOk g seen x = cond (eqb x unmapped) true (cond (dataPage g x) (not (elem x seen)) false)

@@ -5,7 +5,7 @@ use mathlib.Core.List.{List, [], _∷_, _++_}
 use lib.ListN.{length}
 use lib.Dec.{ltb, eqb}
 use Rattle.model.specs.Lists.{all, allHeads, keep, those}
-use Rattle.model.specs.Geometry.{enterPage}
+use Rattle.model.specs.Geometry.{enterPage, leads}
 use Rattle.model.specs.Zones.{Entry}
 
 -- ---- refusal 4: "a scanned whole page"
@@ -19,10 +19,14 @@ markNew seen e =
     all (λ (x : Entry). not (eqb (x .ver) (e .ver))) seen
     && (eqb (e .id) 0 || all (λ (x : Entry). not (isMark x && eqb (x .id) (e .id))) seen)
 
+-- Kind 0, a write, and, as it "now lets Kind 3 pass", a drop
+abbrev pub kindGood : ℕ → Bool
+kindGood kind = eqb kind 0 || eqb kind 3
+
 -- none of: "Kind or Reserved not 0; LPN ≥ L; only one of TxCnt, TxVer zero; TxID or TxVer 0xFFFFFFFF; TxID 0 with TxCnt not 1"
 unfoldable pub entryGood : ℕ → List Entry → Entry → Bool
 entryGood logical seen e =
-    eqb (e .kind) 0
+    kindGood (e .kind)
     && (eqb (e .reserved) 0
     && (ltb (e .lpn) logical
     && (not (eqb (e .id) 4294967295)
@@ -67,10 +71,17 @@ top (e ∷ es) = max (e .ver) (top es)
 unfoldable pub applied : ℕ → List Entry → List Entry
 applied floor es = span es floor (top es - floor)
 
+-- whether a page drops its logical page, and what it leaves in the map
+abbrev pub isDrop : Entry → Bool
+isDrop e = eqb (e .kind) 3
+
+abbrev pub leadsTo : Entry → ℕ
+leadsTo e = leads (isDrop e) (e .ppn)
+
 -- the map with these pages entered in turn
 unfoldable pub enter : List ℕ → List Entry → List ℕ
 enter m [] = m
-enter m (e ∷ es) = enter (enterPage m (e .lpn) (e .ppn)) es
+enter m (e ∷ es) = enter (enterPage m (e .lpn) (leadsTo e)) es
 
 -- the checkpoint's map with the applied pages entered
 unfoldable pub redone : ℕ → List Entry → List ℕ → List ℕ

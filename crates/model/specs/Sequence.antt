@@ -8,7 +8,7 @@ use Rattle.model.specs.Bytes.{bytes}
 use Rattle.model.specs.Answers.{refused}
 use Rattle.model.specs.World.{World, Plan, dueBits, turnedBits, cutOp, programs}
 use Rattle.model.specs.Strides.{stridesDone}
-use Rattle.model.specs.Commands.{Call, format, recover, begin, write, lone, commit, abort, read, checkpoint, reclaim, plan, exec, Outcome}
+use Rattle.model.specs.Commands.{Call, format, recover, begin, write, dropPage, lone, commit, abort, read, checkpoint, reclaim, plan, exec, Outcome}
 use Rattle.model.specs.Book.{Event, called, cutIn, cutBetween}
 use Rattle.model.specs.declared.Geometry.{Geometry}
 
@@ -18,6 +18,7 @@ fits (format g) = ltb (g .blocks) 65536 && (ltb (g .pages) 65536 && ltb (g .logi
 fits (recover g) = ltb (g .blocks) 65536 && (ltb (g .pages) 65536 && ltb (g .logical) 65536)
 fits (begin id) = ltb id 4294967296
 fits (write id lpn d) = ltb id 4294967296 && (ltb lpn 65536 && bytes d)
+fits (dropPage id lpn) = ltb id 4294967296 && ltb lpn 65536
 fits (lone lpn d) = ltb lpn 65536 && bytes d
 fits (commit id) = ltb id 4294967296
 fits (abort id) = ltb id 4294967296
@@ -42,6 +43,7 @@ Allowed g (format h) w = refused (plan (format h) w .answer) ≡ true
 Allowed g (recover h) w = h ≡ g
 Allowed g (begin id) w = Unit {0}
 Allowed g (write id lpn d) w = Unit {0}
+Allowed g (dropPage id lpn) w = Unit {0}
 Allowed g (lone lpn d) w = Unit {0}
 Allowed g (commit id) w = Unit {0}
 Allowed g (abort id) w = Unit {0}
@@ -55,6 +57,7 @@ isRecovery (format g) = true
 isRecovery (recover g) = true
 isRecovery (begin id) = false
 isRecovery (write id lpn d) = false
+isRecovery (dropPage id lpn) = false
 isRecovery (lone lpn d) = false
 isRecovery (commit id) = false
 isRecovery (abort id) = false

@@ -6,7 +6,7 @@ use lib.ListN.{length, getD, set, replicate}
 use lib.Dec.{leb, ltb, eqb}
 use Rattle.model.specs.Lists.{find, part, splice}
 use Rattle.model.specs.Page.{pageBytes, dataAt}
-use Rattle.model.specs.Geometry.{unmapped, enterPage}
+use Rattle.model.specs.Geometry.{unmapped, enterPage, leads}
 use Rattle.model.specs.Zones.{availableOf, cleanIn, nextIn, scanOf, onPages, hasId, active}
 use Rattle.model.specs.World.{World, Op, none, program, Plan, refuse}
 use Rattle.model.specs.Frame.{noPlace, freePlace, badId, gate}
@@ -70,6 +70,14 @@ spent v n = ltb 4294967294 (v + n)
 unfoldable pub dataBytes : List ℕ → ℕ → ℕ → ℕ → ℕ → List ℕ
 dataBytes d lpn cnt id ver = pageBytes d (record { lpn = lpn; cnt = cnt; id = id; ver = ver; kind = 0; reserved = 0 })
 
+-- a page of a change: of Kind 3 if it drops its logical page
+abbrev pub pageKind : Bool → ℕ
+pageKind true = 3
+pageKind false = 0
+
+unfoldable pub changeBytes : List ℕ → Bool → ℕ → ℕ → ℕ → ℕ → List ℕ
+changeBytes d drop lpn cnt id ver = pageBytes d (record { lpn = lpn; cnt = cnt; id = id; ver = ver; kind = pageKind drop; reserved = 0 })
+
 -- the held bytes of place i: "at 512 bytes times its place"
 unfoldable pub heldAt : ℕ → List ℕ → List ℕ
 heldAt i hold = part (512 * i) 512 hold
@@ -82,9 +90,13 @@ holdWith hold i d = splice hold (512 * i) 512 d
 abbrev pub heldPage : Place → ℕ
 heldPage p = getD (p .lpns) (p .count - 1) 0
 
+-- whether it drops it
+abbrev pub heldDrop : Place → Bool
+heldDrop p = getD (p .drops) (p .count - 1) false
+
 -- ---- begin: 6, 7, 9; it "takes the lowest free one, counted from 0"
 unfoldable pub begun : ℕ → Place
-begun id = record { id = id; count = 0; lpns = replicate 64 0; ppns = replicate 64 0 }
+begun id = record { id = id; count = 0; lpns = replicate 64 0; ppns = replicate 64 0; drops = replicate 64 false }
 
 -- 7: "active, or on a whole page in scan order"
 unfoldable pub liveId : ℕ → World → Bool
@@ -107,43 +119,53 @@ abbrev pub longestChange : ℕ
 longestChange = 41
 
 -- the place with one more page, held, the one held before being programmed on page k
-unfoldable pub written : Place → ℕ → ℕ → Place
-written p k lpn =
+unfoldable pub written : Place → ℕ → ℕ → Bool → Place
+written p k lpn drop =
     record {
       id = p .id;
       count = p .count + 1;
       lpns = set (p .lpns) (p .count) lpn;
       ppns = cond (eqb (p .count) 0) (p .ppns) (set (p .ppns) (p .count - 1) k);
+      drops = set (p .drops) (p .count) drop;
     }
 
 -- "The next write first programs the held page with TxCnt 0 and TxVer 0"
 unfoldable pub heldOp : World → ℕ → Place → Op
-heldOp w i p = cond (eqb (p .count) 0) none (program (nextPage w) (dataBytes (heldAt i (w .hold)) (heldPage p) 0 (p .id) 0))
+heldOp w i p = cond (eqb (p .count) 0) none (program (nextPage w) (changeBytes (heldAt i (w .hold)) (heldDrop p) (heldPage p) 0 (p .id) 0))
 
 -- the held page is programmed, the new one held
-unfoldable pub writePlan : ℕ → Place → ℕ → List ℕ → World → Plan
-writePlan i p lpn d w =
+unfoldable pub writePlan : ℕ → Place → ℕ → Bool → List ℕ → World → Plan
+writePlan i p lpn drop d w =
     record {
       answer = 0;
       op = heldOp w i p;
       map = w .map;
       hold = holdWith (w .hold) i d;
-      state = withPlace (w .state) i (written p (nextPage w) lpn);
+      state = withPlace (w .state) i (written p (nextPage w) lpn drop);
     }
 
--- write
-unfoldable pub planWrite : ℕ → ℕ → List ℕ → World → Plan
-planWrite id lpn d w =
+-- one page more in a change: 5, 8, 10, 12
+unfoldable pub addPlan : ℕ → ℕ → Bool → List ℕ → World → Plan
+addPlan id lpn drop d w =
     let s = w .state in
     let i = placeOf (s .places) id in
     let p = getD (s .places) i noPlace in
-    unless (gate false w) w
-    (cond (not (eqb (length d) 512)) (refuse w 11)
-    (cond (leb (s .geometry .logical) lpn) (refuse w 5)
+    cond (leb (s .geometry .logical) lpn) (refuse w 5)
     (cond (leb 8 i) (refuse w 8)
     (cond (leb longestChange (p .count)) (refuse w 10)
     (cond (not (eqb (p .count) 0) && zoneShort w) (refuse w 12)
-    (writePlan i p lpn d w))))))
+    (writePlan i p lpn drop d w))))
+
+-- write
+unfoldable pub planWrite : ℕ → ℕ → List ℕ → World → Plan
+planWrite id lpn d w = unless (gate false w) w (cond (not (eqb (length d) 512)) (refuse w 11) (addPlan id lpn false d w))
+
+-- ---- drop: "Its other checks are those of a write without 11"; "data all 0xFF, counted and held like any other"
+unfoldable pub gone : List ℕ
+gone = replicate 512 255
+
+unfoldable pub planDrop : ℕ → ℕ → World → Plan
+planDrop id lpn w = unless (gate false w) w (addPlan id lpn true gone w)
 
 -- ---- lone write: 11, 5, 13, 12; "TxID 0, TxCnt 1, next TxVer"
 -- programming d as the only page of its transaction, and the map and version that follow
@@ -178,9 +200,9 @@ planLone lpn d w =
 
 -- ---- commit: 8; 13, 12 "only with a held page"
 -- the map with the first n pages of a place entered "in write order"
-unfoldable pub entered : List ℕ → List ℕ → List ℕ → ℕ → List ℕ
-entered map lpns ppns zero = map
-entered map lpns ppns (suc n) = enterPage (entered map lpns ppns n) (getD lpns n 0) (getD ppns n 0)
+unfoldable pub entered : List ℕ → List ℕ → List ℕ → List Bool → ℕ → List ℕ
+entered map lpns ppns drops zero = map
+entered map lpns ppns drops (suc n) = enterPage (entered map lpns ppns drops n) (getD lpns n 0) (leads (getD drops n false) (getD ppns n 0))
 
 -- "Commit programs the held page with TxCnt = all pages of the transaction and TxVer = last version + 1 .., then sets the map"
 unfoldable pub markPlan : ℕ → Place → World → Plan
@@ -189,8 +211,8 @@ markPlan i p w =
     let k = nextPage w in
     record {
       answer = 0;
-      op = program k (dataBytes (heldAt i (w .hold)) (heldPage p) (p .count) (p .id) (s .version + 1));
-      map = entered (w .map) (p .lpns) (set (p .ppns) (p .count - 1) k) (p .count);
+      op = program k (changeBytes (heldAt i (w .hold)) (heldDrop p) (heldPage p) (p .count) (p .id) (s .version + 1));
+      map = entered (w .map) (p .lpns) (set (p .ppns) (p .count - 1) k) (p .drops) (p .count);
       hold = w .hold;
       state = withPlace (withVersion s (s .version + 1)) i freePlace;
     }

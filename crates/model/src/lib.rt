@@ -1,6 +1,7 @@
 // Document 01 (docs/PAPERS.md) as types and definitions: what a reader must believe. The types stand here, the definitions in specs/.
 // Everything is plain data by value; it assumes nothing.
 ghost use mathlib.Core.Path.{_≡_};
+ghost use Rattle.model.specs.Geometry.{leads};
 ghost use Rattle.model.specs.Frame.{freePlace, freshState};
 ghost use Rattle.model.specs.Zones.{noZones};
 
@@ -37,6 +38,16 @@ impl Map {
 
     /// Entries on one map page of a checkpoint.
     pub const ENTRIES_A_PAGE: usize = 256;
+
+    /// The entry of a logical page whose newest page is k: none where that page drops it.
+    pub fn leads(drop: bool, k: u16) -> u16
+        ensures { λ r. ⌜ r ≡ leads drop k ⌝ }
+    {
+        if drop {
+            return Map::UNMAPPED;
+        }
+        k
+    }
 }
 
 /// The spare area of a page before Zeros: LPN, TxCnt, TxID, TxVer, Kind, Reserved.
@@ -77,6 +88,9 @@ impl Spare {
     pub const MAP_KIND: u8 = 1;
 
     pub const ZONE_KIND: u8 = 2;
+
+    /// A page that drops its logical page.
+    pub const DROP_KIND: u8 = 3;
 }
 
 /// Erased: all 528 bytes 0xFF. Whole: otherwise, and Zeros agrees. Torn: neither; it belongs to nobody, and Zeros minus the zero bits counted
@@ -87,13 +101,14 @@ pub enum Class {
     Torn(i32),
 }
 
-/// A transaction place: `count` pages written, the last of them held, those before it programmed on `ppns`.
-/// Free: identifier 0 and count 0.
+/// A transaction place: `count` pages written, the last of them held, those before it programmed on `ppns`; `drops` says which of them drop
+/// their logical page. Free: identifier 0 and count 0.
 pub struct Place {
     pub id: u32,
     pub count: u8,
     pub lpns: [u16; 64],
     pub ppns: [u16; 64],
+    pub drops: [bool; 64],
 }
 
 /// The zone lists, of which the first `na`, `nu` and `nf` numbers count; every other data block is checkpointed.
@@ -168,6 +183,7 @@ impl Place {
             count: 0,
             lpns: [0u16; Place::PAGES],
             ppns: [0u16; Place::PAGES],
+            drops: [false; Place::PAGES],
         }
     }
 }

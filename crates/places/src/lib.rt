@@ -97,17 +97,19 @@ pub fn begun(id: u32) -> Place
         count: 0,
         lpns: [0u16; Place::PAGES],
         ppns: [0u16; Place::PAGES],
+        drops: [false; Place::PAGES],
     }
 }
 
 /// The place with one more page, held, the one held before being programmed on page k.
-pub fn written(p: Place, k: u16, lpn: u16) -> Place
+pub fn written(p: Place, k: u16, lpn: u16, drop: bool) -> Place
     requires { ⌜ p .count < 64 ⌝ }
-    ensures { λ r. ⌜ r ≡ written p k lpn ⌝ }
+    ensures { λ r. ⌜ r ≡ written p k lpn drop ⌝ }
 {
     let n = p.count as usize;
     let mut q = p;
     q.lpns[n] = lpn;
+    q.drops[n] = drop;
     q.count = p.count + 1;
     if n == 0 {
         return q;

@@ -14,7 +14,7 @@ use Rattle.model.specs.Zones.{Entry}
 use Rattle.model.specs.Recovery.{isMark, pagesGood, ofId, pagesOf, committed, txnsIn, span, top, applied, redone}
 use Rattle.arrays.specs.Tests.{Is, eqb-cases, decide, clash, not-so, and-left, and-right, those-append}
 use Rattle.ranks.specs.Dealt.{every, each-map, digit-own, digit-other, those-off}
-use Rattle.ranks.specs.Insert.{Insert, here, there, those-in}
+use Rattle.arrays.specs.Insert.{Insert, here, there, those-in}
 use Rattle.ranks.specs.Entries.{Entries, entries-in, entries-out, entries-both, entries-those, those-entries, those-same, those-alone}
 use Rattle.ranks.specs.Entries.{Found, none, one, search-in}
 use Rattle.ranks.specs.Clear.{Clear, clear-sym, Pairs, Good, passed-good}

@@ -8,7 +8,7 @@ use lib.Dec.{eqb, ltb}
 use borrow.Author.Tests.{eq-eqb, ne-eqb, eqb-true, eqb-false, not-true}
 use Rattle.model.specs.Lists.{all, allHeads}
 use Rattle.model.specs.Zones.{Entry}
-use Rattle.model.specs.Recovery.{isMark, markNew, entryGood, pagesGood}
+use Rattle.model.specs.Recovery.{isMark, kindGood, markNew, entryGood, pagesGood}
 use Rattle.arrays.specs.Tests.{Is, eqb-cases, and-left, and-right, and-both, and-weaker, or-left, or-right}
 use Rattle.arrays.specs.Tests.{all-nil, all-cons, all-head, all-tail, heads-cons, heads-head, heads-tail}
 use Rattle.ranks.specs.Dealt.{every, each-map, each-append}
@@ -82,7 +82,7 @@ module _ (logical : ℕ) where
   unfolding entryGood
   entry-marked seen e h =
       and-right (not (eqb (e .id) 0) || eqb (e .cnt) 1) _ (and-right (not (eqb (e .ver) 4294967295)) _ (and-right (not (eqb (e .id) 4294967295)) _
-      (and-right (ltb (e .lpn) logical) _ (and-right (eqb (e .reserved) 0) _ (and-right (eqb (e .kind) 0) _ h)))))
+      (and-right (ltb (e .lpn) logical) _ (and-right (eqb (e .reserved) 0) _ (and-right (kindGood (e .kind)) _ h)))))
 
   -- a mark has a version, and no other page has
   pub fine-ver : (e : Entry) → Fine logical e → (e .cnt ≡ 0 → e .ver ≡ 0) × (e .cnt ≢ 0 → e .ver ≢ 0)
@@ -124,7 +124,7 @@ module _ (logical : ℕ) where
       → entryGood logical seen e ≡ true → entryGood logical others e ≡ true
   unfolding entryGood
   entry-seen seen others e new =
-      then (eqb (e .kind) 0) (then (eqb (e .reserved) 0) (then (ltb (e .lpn) logical) (then (not (eqb (e .id) 4294967295)) (then (not (eqb (e .ver) 4294967295))
+      then (kindGood (e .kind)) (then (eqb (e .reserved) 0) (then (ltb (e .lpn) logical) (then (not (eqb (e .id) 4294967295)) (then (not (eqb (e .ver) 4294967295))
       (then (not (eqb (e .id) 0) || eqb (e .cnt) 1) (mark (eqb-cases (e .cnt) 0)))))))
     where
       then : (a : Bool) {b c : Bool} → (b ≡ true → c ≡ true) → (a && b) ≡ true → (a && c) ≡ true

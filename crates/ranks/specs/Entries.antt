@@ -7,7 +7,7 @@ use Rattle.model.specs.Lists.{keep, those}
 use Rattle.model.specs.Zones.{Entry}
 use Rattle.arrays.specs.Tests.{decide, clash}
 use Rattle.ranks.specs.Dealt.{Each, those-off}
-use Rattle.ranks.specs.Insert.{Insert, here, there}
+use Rattle.arrays.specs.Insert.{Insert, here, there}
 
 -- each of the entries
 abbrev pub Entries : (Entry → Type 0) → List Entry → Type 0

@@ -1,5 +1,4 @@
 pub mod Dealt
-pub mod Insert
 pub mod Entries
 pub mod Clear
 pub mod Pass

@@ -13,7 +13,7 @@ use borrow.Author.Tests.{leb-true, leb-false, le-leb, ne-eqb}
 use Rattle.model.specs.Lists.{any, keep, those}
 use Rattle.model.specs.Geometry.{enterPage}
 use Rattle.model.specs.Zones.{Entry}
-use Rattle.model.specs.Recovery.{enter}
+use Rattle.model.specs.Recovery.{leadsTo, enter}
 use Rattle.arrays.specs.Tests.{Is, eqb-cases, decide, clash}
 use Rattle.ranks.specs.Entries.{Entries}
 
@@ -25,7 +25,7 @@ pub record Best : Type 0 where
 
 -- page e entered over what stands there
 abbrev entered : (Entry → ℕ) → Entry → Best → Best
-entered rank e r = record { map = enterPage (r .map) (e .lpn) (e .ppn); ranks = set (r .ranks) (e .lpn) (rank e) }
+entered rank e r = record { map = enterPage (r .map) (e .lpn) (leadsTo e); ranks = set (r .ranks) (e .lpn) (rank e) }
 
 -- one page: entered if its rank is not below what was entered there last
 unfoldable pub enterBest : (Entry → ℕ) → Entry → Best → Best
@@ -48,9 +48,9 @@ level rank v es = those (λ (e : Entry). eqb (rank e) v) es
 -- the last page of logical page l, or x
 unfoldable lastAt : ℕ → List Entry → ℕ → ℕ
 lastAt l [] x = x
-lastAt l (e ∷ es) x = lastAt l es (cond (eqb (e .lpn) l) (e .ppn) x)
+lastAt l (e ∷ es) x = lastAt l es (cond (eqb (e .lpn) l) (leadsTo e) x)
 
-last-here : (l : ℕ) (e : Entry) (es : List Entry) (x : ℕ) → eqb (e .lpn) l ≡ true → lastAt l (e ∷ es) x ≡ lastAt l es (e .ppn)
+last-here : (l : ℕ) (e : Entry) (es : List Entry) (x : ℕ) → eqb (e .lpn) l ≡ true → lastAt l (e ∷ es) x ≡ lastAt l es (leadsTo e)
 unfolding lastAt
 last-here l e es x h = rw h
 
@@ -68,7 +68,7 @@ last-some l [] x y h = clash h refl
 last-some l (e ∷ es) x y h = go (eqb (e .lpn) l) h (last-some l es x y)
   where
     go : (t : Bool) → (t || some l es) ≡ true → (some l es ≡ true → lastAt l es x ≡ lastAt l es y)
-        → lastAt l es (cond t (e .ppn) x) ≡ lastAt l es (cond t (e .ppn) y)
+        → lastAt l es (cond t (leadsTo e) x) ≡ lastAt l es (cond t (leadsTo e) y)
     go true h ih = refl
     go false h ih = ih h
 
@@ -76,7 +76,7 @@ module _ (rank : Entry → ℕ) (l : ℕ) where
   -- what the pass leaves there, from rank b and page x
   unfoldable win : List Entry → ℕ → ℕ → ℕ
   win [] b x = x
-  win (e ∷ es) b x = cond (eqb (e .lpn) l && leb b (rank e)) (win es (rank e) (e .ppn)) (win es b x)
+  win (e ∷ es) b x = cond (eqb (e .lpn) l && leb b (rank e)) (win es (rank e) (leadsTo e)) (win es b x)
 
   -- the highest rank there
   unfoldable peak : List Entry → ℕ → ℕ
@@ -129,16 +129,16 @@ module _ (rank : Entry → ℕ) (l : ℕ) where
       Rest = (c y : ℕ) → p ≡ peak es c → win es c y ≡ lastAt l (level rank p es) y
 
       go : Is (e .lpn) l → (leb b (rank e) ≡ true) ⊎ (leb b (rank e) ≡ false) → Is (rank e) p → Rest
-          → cond (eqb (e .lpn) l && leb b (rank e)) (win es (rank e) (e .ppn)) (win es b x) ≡ lastAt l (keep (eqb (rank e) p) (e ∷ []) ++ level rank p es) x
+          → cond (eqb (e .lpn) l && leb b (rank e)) (win es (rank e) (leadsTo e)) (win es b x) ≡ lastAt l (keep (eqb (rank e) p) (e ∷ []) ++ level rank p es) x
       go (inl s) (inl t) r ih =
           let h = leb-true b (rank e) t in
           let m : max b (rank e) ≡ rank e = omega arith in
           let k : p ≡ peak es (rank e) = rw (s .1, m) at q in
-          rw (s .1, t) (ih (rank e) (e .ppn) k ∙ over k r)
+          rw (s .1, t) (ih (rank e) (leadsTo e) k ∙ over k r)
         where
-          over : p ≡ peak es (rank e) → Is (rank e) p → lastAt l (level rank p es) (e .ppn) ≡ lastAt l (keep (eqb (rank e) p) (e ∷ []) ++ level rank p es) x
+          over : p ≡ peak es (rank e) → Is (rank e) p → lastAt l (level rank p es) (leadsTo e) ≡ lastAt l (keep (eqb (rank e) p) (e ∷ []) ++ level rank p es) x
           over k (inl r) = rw (r .1) (sym (last-here l e (level rank p es) x (s .1)))
-          over k (inr r) = rw (r .1) (last-some l (level rank p es) (e .ppn) x (peak-in es (rank e) p k (omega (arith, peak-least es (rank e), r .0))))
+          over k (inr r) = rw (r .1) (last-some l (level rank p es) (leadsTo e) x (peak-in es (rank e) p k (omega (arith, peak-least es (rank e), r .0))))
       go (inl s) (inr t) r ih =
           let h = leb-false b (rank e) t in
           let m : max b (rank e) ≡ b = omega arith in
@@ -193,25 +193,25 @@ module _ (rank : Entry → ℕ) where
   climbs-win l lo hi b x (e ∷ es) h c = go (eqb-cases (e .lpn) l) (λ d y k. climbs-win l (rank e) hi d y es k (c .1))
     where
       go : Is (e .lpn) l → ((d y : ℕ) → d ≤ rank e → win rank l es d y ≡ lastAt l es y)
-          → cond (eqb (e .lpn) l && leb b (rank e)) (win rank l es (rank e) (e .ppn)) (win rank l es b x) ≡ lastAt l es (cond (eqb (e .lpn) l) (e .ppn) x)
-      go (inl s) ih = rw (s .1, le-leb b (rank e) (omega (arith, c .0))) (ih (rank e) (e .ppn) (omega arith))
+          → cond (eqb (e .lpn) l && leb b (rank e)) (win rank l es (rank e) (leadsTo e)) (win rank l es b x) ≡ lastAt l es (cond (eqb (e .lpn) l) (leadsTo e) x)
+      go (inl s) ih = rw (s .1, le-leb b (rank e) (omega (arith, c .0))) (ih (rank e) (leadsTo e) (omega arith))
       go (inr s) ih = rw (s .1) (ih b x (omega (arith, c .0)))
 
 -- ---- every logical page
 enter-length : (m : List ℕ) (es : List Entry) → length (enter m es) ≡ length m
 unfolding enter
 enter-length m [] = refl
-enter-length m (e ∷ es) = enter-length (enterPage m (e .lpn) (e .ppn)) es ∙ length-set m (e .lpn) (e .ppn)
+enter-length m (e ∷ es) = enter-length (enterPage m (e .lpn) (leadsTo e)) es ∙ length-set m (e .lpn) (leadsTo e)
 
 enter-at : (l : ℕ) (m : List ℕ) (es : List Entry) → l < length m → getD (enter m es) l 0 ≡ lastAt l es (getD m l 0)
 unfolding enter lastAt
 enter-at l m [] h = refl
 enter-at l m (e ∷ es) h =
-    enter-at l (enterPage m (e .lpn) (e .ppn)) es (omega (arith, length-set m (e .lpn) (e .ppn))) ∙ ap (lastAt l es) (at (eqb-cases (e .lpn) l))
+    enter-at l (enterPage m (e .lpn) (leadsTo e)) es (omega (arith, length-set m (e .lpn) (leadsTo e))) ∙ ap (lastAt l es) (at (eqb-cases (e .lpn) l))
   where
-    at : Is (e .lpn) l → getD (set m (e .lpn) (e .ppn)) l 0 ≡ cond (eqb (e .lpn) l) (e .ppn) (getD m l 0)
-    at (inl s) = rw (s .1, s .0) (getD-set-same m l (e .ppn) 0 h)
-    at (inr s) = rw (s .1) (getD-set-other m (e .lpn) l (e .ppn) 0 (λ k. s .0 (sym k)))
+    at : Is (e .lpn) l → getD (set m (e .lpn) (leadsTo e)) l 0 ≡ cond (eqb (e .lpn) l) (leadsTo e) (getD m l 0)
+    at (inl s) = rw (s .1, s .0) (getD-set-same m l (leadsTo e) 0 h)
+    at (inr s) = rw (s .1) (getD-set-other m (e .lpn) l (leadsTo e) 0 (λ k. s .0 (sym k)))
 
 module _ (rank : Entry → ℕ) where
   -- the pass keeps the map's length
@@ -221,7 +221,7 @@ module _ (rank : Entry → ℕ) where
   best-length (e ∷ es) r = best-length es (enterBest rank e r) ∙ go (leb (getD (r .ranks) (e .lpn) 0) (rank e))
     where
       go : (t : Bool) → length (cond t (entered rank e r) r .map) ≡ length (r .map)
-      go true = length-set (r .map) (e .lpn) (e .ppn)
+      go true = length-set (r .map) (e .lpn) (leadsTo e)
       go false = refl
 
   best-at : (l : ℕ) (es : List Entry) (r : Best) → l < length (r .map) → length (r .ranks) ≡ length (r .map)
@@ -239,25 +239,25 @@ module _ (rank : Entry → ℕ) where
 
       after : Rest → getD (bestOf rank es over .map) l 0 ≡ win rank l es (getD (over .ranks) l 0) (getD (over .map) l 0)
       after ih =
-          ih over (omega (arith, length-set (r .map) (e .lpn) (e .ppn)))
-          (omega (arith, length-set (r .map) (e .lpn) (e .ppn), length-set (r .ranks) (e .lpn) (rank e)))
+          ih over (omega (arith, length-set (r .map) (e .lpn) (leadsTo e)))
+          (omega (arith, length-set (r .map) (e .lpn) (leadsTo e), length-set (r .ranks) (e .lpn) (rank e)))
 
       go : Is (e .lpn) l → (leb (getD (r .ranks) (e .lpn) 0) (rank e) ≡ true) ⊎ (leb (getD (r .ranks) (e .lpn) 0) (rank e) ≡ false) → Rest
           → getD (bestOf rank es (cond (leb (getD (r .ranks) (e .lpn) 0) (rank e)) over r) .map) l 0
-          ≡ cond (eqb (e .lpn) l && leb (getD (r .ranks) l 0) (rank e)) (win rank l es (rank e) (e .ppn))
+          ≡ cond (eqb (e .lpn) l && leb (getD (r .ranks) l 0) (rank e)) (win rank l es (rank e) (leadsTo e))
           (win rank l es (getD (r .ranks) l 0) (getD (r .map) l 0))
       go (inl s) (inl t) ih =
           let u : leb (getD (r .ranks) l 0) (rank e) ≡ true = ap (λ (i : ℕ). leb (getD (r .ranks) i 0) (rank e)) (sym (s .0)) ∙ t in
           let a : getD (over .ranks) l 0 ≡ rank e
           = ap (λ (i : ℕ). getD (set (r .ranks) i (rank e)) l 0) (s .0) ∙ getD-set-same (r .ranks) l (rank e) 0 (omega arith) in
-          let b : getD (over .map) l 0 ≡ e .ppn = ap (λ (i : ℕ). getD (set (r .map) i (e .ppn)) l 0) (s .0) ∙ getD-set-same (r .map) l (e .ppn) 0 h in
+          let b : getD (over .map) l 0 ≡ leadsTo e = ap (λ (i : ℕ). getD (set (r .map) i (leadsTo e)) l 0) (s .0) ∙ getD-set-same (r .map) l (leadsTo e) 0 h in
           rw (t, s .1, u) (rw (a, b) at (after ih))
       go (inl s) (inr t) ih =
           let u : leb (getD (r .ranks) l 0) (rank e) ≡ false = ap (λ (i : ℕ). leb (getD (r .ranks) i 0) (rank e)) (sym (s .0)) ∙ t in
           rw (t, s .1, u) (ih r h k)
       go (inr s) (inl t) ih =
           let a : getD (over .ranks) l 0 ≡ getD (r .ranks) l 0 = getD-set-other (r .ranks) (e .lpn) l (rank e) 0 (λ z. s .0 (sym z)) in
-          let b : getD (over .map) l 0 ≡ getD (r .map) l 0 = getD-set-other (r .map) (e .lpn) l (e .ppn) 0 (λ z. s .0 (sym z)) in
+          let b : getD (over .map) l 0 ≡ getD (r .map) l 0 = getD-set-other (r .map) (e .lpn) l (leadsTo e) 0 (λ z. s .0 (sym z)) in
           rw (t, s .1) (rw (a, b) at (after ih))
       go (inr s) (inr t) ih = rw (t, s .1) (ih r h k)
 

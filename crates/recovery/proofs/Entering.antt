@@ -11,7 +11,7 @@ use borrow.Author.Tests.{le-leb, lt-leb}
 use Rattle.model.specs.Lists.{those}
 use Rattle.model.specs.Page.{spareOf}
 use Rattle.model.specs.Zones.{Entry, entryOf}
-use Rattle.model.specs.Recovery.{ofId}
+use Rattle.model.specs.Recovery.{leadsTo, ofId}
 use Rattle.ranks.specs.Dealt.{Each, each-at, each-take, each-drop}
 use Rattle.ranks.specs.Pass.{Best, enterBest, bestOf, best-append}
 use Rattle.sorting.specs.Sort.{keyAt}
@@ -28,7 +28,7 @@ enter-rank rank e r = refl
 
 -- it is entered, or passed over
 pub enter-in : (v : ℕ) (e : Entry) (r : Best) → getD (r .ranks) (e .lpn) 0 ≤ v
-    → enterBest (λ (x : Entry). v) e r ≡ record { map = set (r .map) (e .lpn) (e .ppn); ranks = set (r .ranks) (e .lpn) v }
+    → enterBest (λ (x : Entry). v) e r ≡ record { map = set (r .map) (e .lpn) (leadsTo e); ranks = set (r .ranks) (e .lpn) v }
 unfolding enterBest
 enter-in v e r h = rw (le-leb (getD (r .ranks) (e .lpn) 0) v h)
 

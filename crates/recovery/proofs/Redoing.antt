@@ -13,7 +13,7 @@ use lib.Dec.{eqb, ltb}
 use borrow.Author.Tests.{eq-eqb, ne-eqb, eqb-true, eqb-false, not-true, ltb-true}
 use Rattle.model.specs.Lists.{those}
 use Rattle.model.specs.Zones.{Entry, scanIn}
-use Rattle.model.specs.Recovery.{entryGood, pagesGood, ofId, span, top, applied, enter, redone}
+use Rattle.model.specs.Recovery.{kindGood, entryGood, pagesGood, ofId, span, top, applied, enter, redone}
 use Rattle.arrays.specs.Tests.{Is, eqb-cases, and-left, and-right, those-append}
 use Rattle.ranks.specs.Dealt.{Each, each-map, each-those, passed, those-off}
 use Rattle.ranks.specs.Clear.{Fine}
@@ -62,14 +62,14 @@ changes-runs xs ks low =
 module _ (logical : ℕ) (e : Entry) where
   fine-lpn : Fine logical e → e .lpn < logical
   unfolding entryGood
-  fine-lpn h = ltb-true (e .lpn) logical (and-left (ltb (e .lpn) logical) _ (and-right (eqb (e .reserved) 0) _ (and-right (eqb (e .kind) 0) _ h)))
+  fine-lpn h = ltb-true (e .lpn) logical (and-left (ltb (e .lpn) logical) _ (and-right (eqb (e .reserved) 0) _ (and-right (kindGood (e .kind)) _ h)))
 
   fine-lone : Fine logical e → e .id ≡ 0 → e .cnt ≡ 1
   unfolding entryGood
   fine-lone h z =
       let t : (not (eqb (e .id) 0) || eqb (e .cnt) 1) ≡ true
       = and-left (not (eqb (e .id) 0) || eqb (e .cnt) 1) _ (and-right (not (eqb (e .ver) 4294967295)) _ (and-right (not (eqb (e .id) 4294967295)) _
-      (and-right (ltb (e .lpn) logical) _ (and-right (eqb (e .reserved) 0) _ (and-right (eqb (e .kind) 0) _ h))))) in
+      (and-right (ltb (e .lpn) logical) _ (and-right (eqb (e .reserved) 0) _ (and-right (kindGood (e .kind)) _ h))))) in
       let u : (not true || eqb (e .cnt) 1) ≡ true = rw (eq-eqb (e .id) 0 z) at t in
       eqb-true (e .cnt) 1 u
 

@@ -13,6 +13,7 @@ ghost use Rattle.scan.specs.Taken.{listed, entryIn, entriesIn};
 ghost use Rattle.scan.specs.Notes.{noted};
 ghost use Rattle.recovery.specs.Redo.{best, allEntered, runOf, runVersion, Enterable, Runs, Ready};
 use model::Geometry;
+use model::Map;
 use model::Spare;
 
 /// A best version for each logical page.
@@ -29,7 +30,7 @@ fn enter(map: &mut [u16], bests: &mut [u32], array: &[u8], k: u16, v: u32)
         return;
     }
     bests[l] = v;
-    map[l] = k;
+    map[l] = Map::leads(page[Spare::KIND] == Spare::DROP_KIND, k);
 }
 
 /// Enters the pages of a run with its version.

@@ -18,10 +18,10 @@ use Rattle.model.specs.Checkpoint.{nothing, at, mapPage, zonePage, loadMap, zon
 use Rattle.model.specs.Recovery.{pagesGood, top, redone}
 use Rattle.model.specs.World.{World, Op, none, program, erase, Plan, refuse, applyOp, dueBits, turnedBits, turn, cutOp, programs}
 use Rattle.model.specs.Frame.{noPlace, freePlace, badId, placesOk, formatStrideOk, checkpointStrideOk, workOk, lentOk, frameOk, isIdle, gate, freshState}
-use Rattle.model.specs.Transactions.{withPlace, withVersion, dataBytes, heldAt, holdWith, heldPage, placeOf, begun, liveId, longestChange, written, heldOp, writePlan, lonePlan, entered, markPlan, forgetPlan, cleanPages, nextPage, zoneShort, spent, readPart}
+use Rattle.model.specs.Transactions.{withPlace, withVersion, dataBytes, changeBytes, heldAt, holdWith, heldPage, heldDrop, placeOf, begun, liveId, longestChange, written, heldOp, writePlan, gone, lonePlan, entered, markPlan, forgetPlan, cleanPages, nextPage, zoneShort, spent, readPart}
 use Rattle.model.specs.Strides.{withWork, withZones, withNumber, isCheckpoint, isReclaim, mapStride, zoneStride, pageStride, checkpointStride, mappedIn, picked, lowestFrom, copyStride, freeStride, reclaimStride, stridesDone, formatWorkOk, formatMore, formatLast, formatStride, planFormat}
 use Rattle.model.specs.Recover.{recoveredMap, recoveredState, recoverPlan, recoverFrom, planRecover}
-use Rattle.model.specs.Commands.{Call, format, recover, begin, write, lone, commit, abort, read, checkpoint, reclaim, plan, carried, exec, Outcome}
+use Rattle.model.specs.Commands.{Call, format, recover, begin, write, dropPage, lone, commit, abort, read, checkpoint, reclaim, plan, carried, exec, Outcome}
 use Rattle.model.specs.Book.{Event, called, cutIn}
 use Rattle.model.specs.Sequence.{Phase, live, dark, Allowed, cutEvent, cutArray, isRecovery, Step, call, cut, back, failed, Run, stop, next, Formatting, first, more, Formatted, finished, fits}
 use Rattle.model.specs.declared.Geometry.{Geometry}
@@ -30,7 +30,7 @@ use Rattle.model.specs.declared.State.{State}
 use Rattle.model.specs.declared.Zones.{Zones}
 use Rattle.model.specs.declared.Work.{Work}
 use Rattle.model.specs.declared.Work.the-variants.{Idle, Format, Checkpoint, Reclaim}
-use Rattle.examples.specs.Orders.{begin-done, write-done, lone-done, commit-done, abort-done, checkpoint-done, front-suffices, reclaim-strides, reclaim-done, reclaim-frees}
+use Rattle.examples.specs.Orders.{begin-done, write-done, drop-done, lone-done, commit-done, abort-done, checkpoint-done, front-suffices, reclaim-strides, reclaim-done, reclaim-frees}
 use Rattle.runs.specs.Paged.{flat, Sized, length-flat, page-flat, part-flat, splice-flat, put-flat, usedOn, cleanOn, nextOn, scanOn, newestOn, numberOn, used-on, clean-on, next-on, scan-on, newest-page, number-on, slideOn, slide-on}
 
 -- ---- a device: the pages of its array, each of 528 bytes, map, hold and state
@@ -201,45 +201,69 @@ module _ (x : Device) where
 
       -- the held page as it is programmed with this TxCnt and TxVer
       abbrev held : ℕ → ℕ → List ℕ
-      held cnt ver = dataBytes (heldAt i h) (heldPage place) cnt (place .id) ver
+      held cnt ver = changeBytes (heldAt i h) (heldDrop place) (heldPage place) cnt (place .id) ver
 
-      module _ (lpn : ℕ) (d : List ℕ) (long : eqb (length d) 512 ≡ true) (in-range : leb (s .geometry .logical) lpn ≡ false) (k : ℕ) (n : nextFree ≡ k) where
-        -- the world after a write that the array undergoes o for, page j being next
+      -- a call that adds a page to the change
+      module _ (c : Call) (lpn : ℕ) (adds : Bool) (d : List ℕ) (k : ℕ) (n : nextFree ≡ k) where
+        -- the world after it, if the array undergoes o and page j is next
         after : Op → ℕ → Outcome
-        after o j = record { answer = 0; world = record { array = applyOp (s .geometry .pages) o (flat qs); map = m; hold = holdWith h i d; state = withPlace s i (written place j lpn) } }
+        after o j = record { answer = 0; world = record { array = applyOp (s .geometry .pages) o (flat qs); map = m; hold = holdWith h i d; state = withPlace s i (written place j lpn adds) } }
 
-        -- the first write of a change is held
-        pub first-write : place .count ≡ 0
-            → exec (write id lpn d) (world x) ≡ record { answer = 0; world = device qs m (holdWith h i d) (withPlace s i (written place k lpn)) }
+        -- the first one is held
+        first-page : place .count ≡ 0 → plan c (world x) ≡ writePlan i place lpn adds d (world x)
+            → exec c (world x) ≡ record { answer = 0; world = device qs m (holdWith h i d) (withPlace s i (written place k lpn adds)) }
         unfolding exec carried writePlan heldOp withPlace applyOp after
-        first-write c =
-            ap (λ (p : Plan). carried p (world x)) (write-done (world x) pass id lpn d long in-range open-at (omega (arith, c)) (rw c refl))
-            ∙ (ap (λ (y : ℕ). after (cond (eqb y 0) none (program (nextPage (world x)) (held 0 0))) (nextPage (world x))) c
+        first-page z p =
+            ap (λ (p : Plan). carried p (world x)) p
+            ∙ (ap (λ (y : ℕ). after (cond (eqb y 0) none (program (nextPage (world x)) (held 0 0))) (nextPage (world x))) z
             ∙ ap (after none) (next-page k n))
 
         -- a later one programs the held page on page k
+        later-page : (q : List ℕ) → eqb (place .count) 0 ≡ false → ands (getD qs k []) (held 0 0) ≡ q → plan c (world x) ≡ writePlan i place lpn adds d (world x)
+            → exec c (world x) ≡ record { answer = 0; world = device (splice qs k 1 (q ∷ [])) m (holdWith h i d) (withPlace s i (written place k lpn adds)) }
+        unfolding exec carried writePlan heldOp withPlace after
+        later-page q z e p =
+            ap (λ (p : Plan). carried p (world x)) p
+            ∙ (ap (λ (y : Bool). after (cond y none (program (nextPage (world x)) (held 0 0))) (nextPage (world x))) z
+            ∙ (ap (λ (j : ℕ). after (program j (held 0 0)) j) (next-page k n)
+            ∙ ap (λ (xs : List ℕ). record { answer = 0; world = record { array = xs; map = m; hold = holdWith h i d; state = withPlace s i (written place k lpn adds) } }) (programs-on (s .geometry .pages) k (held 0 0) q e)))
+
+      module _ (lpn : ℕ) (d : List ℕ) (long : eqb (length d) 512 ≡ true) (in-range : leb (s .geometry .logical) lpn ≡ false) (k : ℕ) (n : nextFree ≡ k) where
+        pub first-write : place .count ≡ 0
+            → exec (write id lpn d) (world x) ≡ record { answer = 0; world = device qs m (holdWith h i d) (withPlace s i (written place k lpn false)) }
+        first-write c = first-page (write id lpn d) lpn false d k n c (write-done (world x) pass id lpn d long in-range open-at (omega (arith, c)) (rw c refl))
+
         pub next-write : (q : List ℕ) → eqb (place .count) 0 ≡ false → leb longestChange (place .count) ≡ false → leb clean (s .geometry .pages) ≡ false
             → ands (getD qs k []) (held 0 0) ≡ q
-            → exec (write id lpn d) (world x) ≡ record { answer = 0; world = device (splice qs k 1 (q ∷ [])) m (holdWith h i d) (withPlace s i (written place k lpn)) }
-        unfolding exec carried writePlan heldOp withPlace after
+            → exec (write id lpn d) (world x) ≡ record { answer = 0; world = device (splice qs k 1 (q ∷ [])) m (holdWith h i d) (withPlace s i (written place k lpn false)) }
         next-write q c t z e =
-            ap (λ (p : Plan). carried p (world x)) (write-done (world x) pass id lpn d long in-range open-at (leb-false longestChange (place .count) t) (rw (c, zone-on z) refl))
-            ∙ (ap (λ (y : Bool). after (cond y none (program (nextPage (world x)) (held 0 0))) (nextPage (world x))) c
-            ∙ (ap (λ (j : ℕ). after (program j (held 0 0)) j) (next-page k n)
-            ∙ ap (λ (xs : List ℕ). record { answer = 0; world = record { array = xs; map = m; hold = holdWith h i d; state = withPlace s i (written place k lpn) } }) (programs-on (s .geometry .pages) k (held 0 0) q e)))
+            later-page (write id lpn d) lpn false d k n q c e
+            (write-done (world x) pass id lpn d long in-range open-at (leb-false longestChange (place .count) t) (rw (c, zone-on z) refl))
+
+      module _ (lpn : ℕ) (in-range : leb (s .geometry .logical) lpn ≡ false) (k : ℕ) (n : nextFree ≡ k) where
+        pub first-drop : place .count ≡ 0
+            → exec (dropPage id lpn) (world x) ≡ record { answer = 0; world = device qs m (holdWith h i gone) (withPlace s i (written place k lpn true)) }
+        first-drop c = first-page (dropPage id lpn) lpn true gone k n c (drop-done (world x) pass id lpn in-range open-at (omega (arith, c)) (rw c refl))
+
+        pub next-drop : (q : List ℕ) → eqb (place .count) 0 ≡ false → leb longestChange (place .count) ≡ false → leb clean (s .geometry .pages) ≡ false
+            → ands (getD qs k []) (held 0 0) ≡ q
+            → exec (dropPage id lpn) (world x) ≡ record { answer = 0; world = device (splice qs k 1 (q ∷ [])) m (holdWith h i gone) (withPlace s i (written place k lpn true)) }
+        next-drop q c t z e =
+            later-page (dropPage id lpn) lpn true gone k n q c e
+            (drop-done (world x) pass id lpn in-range open-at (leb-false longestChange (place .count) t) (rw (c, zone-on z) refl))
 
       -- a commit programs the held page as the mark, on page k
       module _ (k : ℕ) (c : eqb (place .count) 0 ≡ false) (v : spent (s .version) 1 ≡ false) (z : leb clean (s .geometry .pages) ≡ false)
           (n : nextFree ≡ k) where
         marked : ℕ → List ℕ → Outcome
-        marked j xs = record { answer = 0; world = record { array = xs; map = entered m (place .lpns) (set (place .ppns) (place .count - 1) j) (place .count); hold = h; state = withPlace (withVersion s (s .version + 1)) i freePlace } }
+        marked j xs = record { answer = 0; world = record { array = xs; map = entered m (place .lpns) (set (place .ppns) (place .count - 1) j) (place .drops) (place .count); hold = h; state = withPlace (withVersion s (s .version + 1)) i freePlace } }
 
         pub commit-op : plan (commit id) (world x) .op ≡ program k (held (place .count) (s .version + 1))
         unfolding markPlan
         commit-op = ap (λ (p : Plan). p .op) (commit-done (world x) pass id open-at c v (zone-on z)) ∙ ap (λ (j : ℕ). program j (held (place .count) (s .version + 1))) (next-page k n)
 
         pub commits : (q : List ℕ) → ands (getD qs k []) (held (place .count) (s .version + 1)) ≡ q
-            → exec (commit id) (world x) ≡ record { answer = 0; world = device (splice qs k 1 (q ∷ [])) (entered m (place .lpns) (set (place .ppns) (place .count - 1) k) (place .count)) h (withPlace (withVersion s (s .version + 1)) i freePlace) }
+            → exec (commit id) (world x) ≡ record { answer = 0; world = device (splice qs k 1 (q ∷ [])) (entered m (place .lpns) (set (place .ppns) (place .count - 1) k) (place .drops) (place .count)) h (withPlace (withVersion s (s .version + 1)) i freePlace) }
         unfolding exec carried markPlan withPlace withVersion marked
         commits q e =
             ap (λ (p : Plan). carried p (world x)) (commit-done (world x) pass id open-at c v (zone-on z))

@@ -14,10 +14,10 @@ use Rattle.model.specs.Zones.{zonesOf, onPages, hasId, active}
 use Rattle.model.specs.Checkpoint.{nothing, at, mapPage, zonePage, zoneData}
 use Rattle.model.specs.World.{Plan, refuse}
 use Rattle.model.specs.Frame.{freePlace, freshState, badId}
-use Rattle.model.specs.Transactions.{readPart, dataBytes, withPlace, begun}
+use Rattle.model.specs.Transactions.{readPart, dataBytes, changeBytes, gone, withPlace, begun}
 use lib.Dec.{leb, ltb}
 use Rattle.model.specs.Strides.{withWork, stridesDone, formatWorkOk}
-use Rattle.model.specs.Commands.{format, recover, begin, write, lone, commit, abort, read, checkpoint, reclaim, plan, exec}
+use Rattle.model.specs.Commands.{format, recover, begin, write, dropPage, lone, commit, abort, read, checkpoint, reclaim, plan, exec}
 use Rattle.model.specs.Book.{Event, called, cutIn, cutBetween, never, holds, Book, blank as noBook, story}
 use Rattle.model.specs.Answers.{refused}
 use Rattle.model.specs.Sequence.{live, between, lost as lost-in, again, cutEvent, cutArray, Run, stop, next, Formatting, Formatted, fits}
@@ -31,7 +31,7 @@ use Rattle.examples.specs.Unfolded.{go, told}
 use Rattle.examples.specs.Rules.{small}
 use Rattle.examples.specs.Orders.{begin-6 as begin-6-law, begin-7 as begin-7-law, begin-9 as begin-9-law, begin-17, write-5, write-8, write-11, read-14, read-0, reclaim-strides, reclaim-none, recover-1, format-1}
 use Rattle.runs.specs.Paged.{flat, Sized, page-flat, sized-take, sized-append, sized-replicate, usedOn, cleanOn, nextOn, entryOn, wholeOn, scanOn, isOn, mapsOn, completeOn, newerOn, newestOn, fullOn, slideOn}
-use Rattle.runs.specs.Devices.{Device, world, device, lentOn, frameOn, workOn, format-erases, format-maps, format-ends, format-ready, format-first, format-more, format-finished, refused-stays, passes, busy, reads-part, lent-on, live-on, begins, begin-op, lone-op, lone-writes, first-write, next-write, commit-op, commits, aborts, checkpoint-begins, checkpoint-ends, reclaim-copies, reclaim-erases, reclaim-op, reclaim-shape, loadOn, recovers, idle-told, idle-left, page-told, page-left, block-told, block-left, answered, cut-short, recovered, turned-down, joined}
+use Rattle.runs.specs.Devices.{Device, world, device, lentOn, frameOn, workOn, format-erases, format-maps, format-ends, format-ready, format-first, format-more, format-finished, refused-stays, passes, busy, reads-part, lent-on, live-on, begins, begin-op, lone-op, lone-writes, first-write, next-write, first-drop, next-drop, commit-op, commits, aborts, checkpoint-begins, checkpoint-ends, reclaim-copies, reclaim-erases, reclaim-op, reclaim-shape, loadOn, recovers, idle-told, idle-left, page-told, page-left, block-told, block-left, answered, cut-short, recovered, turned-down, joined}
 
 -- ---- pages
 abbrev pub blank : List ℕ
@@ -143,6 +143,16 @@ p24 = dataBytes zeros 3 1 0 5
 unfoldable pub p25 : List ℕ
 p25 = dataBytes ones 4 1 0 6
 
+-- change 21 with a mark that is a drop and is torn by one bit, and change 22, whose only page is a drop
+unfoldable pub p26 : List ℕ
+p26 = dataBytes ones 4 0 21 0
+
+unfoldable pub p27 : List ℕ
+p27 = set (changeBytes gone true 3 2 21 7) 512 7
+
+unfoldable pub p28 : List ℕ
+p28 = changeBytes gone true 3 1 22 7
+
 -- page 16 with its first byte erased
 unfoldable pub e16 : List ℕ
 e16 = set (dataBytes zeros 3 0 5 0) 0 255
@@ -154,7 +164,7 @@ abbrev pub block2 : List (List ℕ)
 block2 = p16 ∷ p17 ∷ p18 ∷ p19 ∷ p20 ∷ p21 ∷ p22 ∷ p23 ∷ []
 
 abbrev pub block3 : List (List ℕ)
-block3 = p24 ∷ p25 ∷ []
+block3 = p24 ∷ p25 ∷ p26 ∷ p27 ∷ p28 ∷ []
 
 pub sized-fronts : Sized fronts
 unfolding go map1 zone1 map2 zone2
@@ -165,8 +175,8 @@ unfolding go p16 p17 p18 p19 p20 p21 p22 p23
 sized-2 = (refl, (refl, (refl, (refl, (refl, (refl, (refl, (refl, tt))))))))
 
 pub sized-3 : Sized block3
-unfolding go p24 p25
-sized-3 = (refl, (refl, tt))
+unfolding go p24 p25 p26 p27 p28
+sized-3 = (refl, (refl, (refl, (refl, (refl, tt)))))
 
 pub size-e16 : length e16 ≡ 528
 unfolding go e16
@@ -180,9 +190,13 @@ idle z v n ps = record { geometry = small; zones = z; version = v; checkpoint = 
 abbrev pub free8 : List Place
 free8 = replicate 8 freePlace
 
--- a change in place 0: its identifier, its writes and their pages
+-- a change in place 0: its identifier, its logical pages, the pages that they lie on, and which of the first of them it drops
+abbrev pub dropping : ℕ → List ℕ → List ℕ → List Bool → List Place
+dropping id ls ps ds = record { id = id; count = length ls; lpns = padTo 64 ls; ppns = padTo 64 ps; drops = ds ++ replicate (64 - length ds) false } ∷ replicate 7 freePlace
+
+-- one of writes alone
 abbrev pub opened : ℕ → List ℕ → List ℕ → List Place
-opened id ls ps = record { id = id; count = length ls; lpns = padTo 64 ls; ppns = padTo 64 ps } ∷ replicate 7 freePlace
+opened id ls ps = dropping id ls ps []
 
 -- of the pages above the first i of the front, the first j of block 2 and the first k of block 3 are programmed
 abbrev pub stage : ℕ → ℕ → ℕ → List ℕ → List ℕ → State → Device
@@ -195,12 +209,12 @@ stage i j k m h s =
       state = s;
     }
 
--- all of them, and the first byte of block 2 erased
+-- two of block 3, and the first byte of block 2 erased
 abbrev pub etched : List ℕ → List ℕ → State → Device
 etched m h s =
     record {
-      pages = pages fronts (e16 ∷ drop 1 block2) block3;
-      sized = sized-pages fronts (e16 ∷ drop 1 block2) block3 sized-fronts (size-e16, sized-2 .1) sized-3;
+      pages = pages fronts (e16 ∷ drop 1 block2) (take 2 block3);
+      sized = sized-pages fronts (e16 ∷ drop 1 block2) (take 2 block3) sized-fronts (size-e16, sized-2 .1) (sized-take 2 block3 sized-3);
       map = m;
       hold = h;
       state = s;
@@ -274,6 +288,27 @@ w21 = stage 4 0 2 (mapped 24 25) (hold zeros) (idle zones3 6 2 free8)
 
 abbrev pub w22 : Device
 w22 = stage 4 0 2 (mapped 24 25) (hold zeros) (idle zones2 6 2 free8)
+
+abbrev pub w23 : Device
+w23 = stage 4 0 2 (mapped 24 25) (hold zeros) (idle zones2 6 2 (opened 21 [] []))
+
+abbrev pub w24 : Device
+w24 = stage 4 0 2 (mapped 24 25) (hold ones) (idle zones2 6 2 (opened 21 (4 ∷ []) []))
+
+abbrev pub w25 : Device
+w25 = stage 4 0 3 (mapped 24 25) (hold gone) (idle zones2 6 2 (dropping 21 (4 ∷ 3 ∷ []) (26 ∷ []) (false ∷ true ∷ [])))
+
+abbrev pub w26 : Device
+w26 = stage 4 0 4 (mapped 24 25) (hold gone) (idle zones2 6 2 free8)
+
+abbrev pub w27 : Device
+w27 = stage 4 0 4 (mapped 24 25) (hold gone) (idle zones2 6 2 (opened 22 [] []))
+
+abbrev pub w28 : Device
+w28 = stage 4 0 4 (mapped 24 25) (hold gone) (idle zones2 6 2 (dropping 22 (3 ∷ []) [] (true ∷ [])))
+
+abbrev pub w29 : Device
+w29 = stage 4 0 5 (mapped 65535 25) (hold gone) (idle zones2 7 2 free8)
 
 -- ---- the format, of an array of sevens
 -- the first k blocks are erased
@@ -749,12 +784,109 @@ run6 =
     (answered (begin 18) 0 (begin-next 7 refl refl refl refl refl) refl tt
     (answered (begin 19) 9 begin-ninth refl tt (stop _)))))))))
 
+-- ---- 7: a change whose mark is a drop, the commit cut one bit short; then one of a drop alone, its commit cut at its last bit
+recover-many : exec (recover small) (world (many 8)) ≡ record { answer = 0; world = world w22 }
+unfolding paged map1 zone1 map2 zone2 p24 p25 begunFrom
+recover-many = recovers (many 8) small 2 (mapped 22 23 ++ replicate 240 65535) (zoneData 4 zones2) (record { ppn = 24; lpn = 3; cnt = 1; id = 0; ver = 5; kind = 0; reserved = 0 } ∷ record { ppn = 25; lpn = 4; cnt = 1; id = 0; ver = 6; kind = 0; reserved = 0 } ∷ []) 2 refl refl refl refl refl refl refl refl
+
+begin-21 : exec (begin 21) (world w22) ≡ record { answer = 0; world = world w23 }
+unfolding paged p24 p25
+begin-21 = begins w22 refl refl refl 21 refl refl refl
+
+write-21-4 : exec (write 21 4 ones) (world w23) ≡ record { answer = 0; world = world w24 }
+unfolding paged p24 p25
+write-21-4 = first-write w23 refl refl refl 21 refl 4 ones refl refl 26 refl refl
+
+drop-21-3 : exec (dropPage 21 3) (world w24) ≡ record { answer = 0; world = world w25 }
+unfolding paged p24 p25 p26
+drop-21-3 = next-drop w24 refl refl refl 21 refl 3 refl 26 refl p26 refl refl refl refl
+
+-- its mark, of which bit 2 of byte 512 is not let turn: the data have no zero bit
+unfoldable pub mark21 : List ℕ
+mark21 = changeBytes gone true 3 2 21 7
+
+abbrev pub butLater : List ℕ
+butLater = replicate 512 255 ++ (251 ∷ [])
+
+commit-21-told : cutEvent (commit 21) (world w25) butLater ≡ cutIn (commit 21) true (minus blank mark21) (ands (minus blank mark21) butLater)
+unfolding paged mark21 p24 p25 p26
+commit-21-told = page-told w25 (commit 21) butLater 27 mark21 blank (commit-op w25 refl refl refl 21 refl 27 refl refl refl refl) refl
+
+commit-21-left : cutArray (commit 21) (world w25) butLater ≡ flat (w26 .pages)
+unfolding paged mark21 p24 p25 p26 p27
+commit-21-left = page-left w25 (commit 21) butLater 27 mark21 blank (commit-op w25 refl refl refl 21 refl 27 refl refl refl refl) refl p27 refl
+
+recover-26 : exec (recover small) (world (handed w26)) ≡ record { answer = 0; world = world w26 }
+unfolding paged map1 zone1 map2 zone2 p24 p25 p26 p27
+recover-26 = recovers (handed w26) small 2 (mapped 22 23 ++ replicate 240 65535) (zoneData 4 zones2) (record { ppn = 24; lpn = 3; cnt = 1; id = 0; ver = 5; kind = 0; reserved = 0 } ∷ record { ppn = 25; lpn = 4; cnt = 1; id = 0; ver = 6; kind = 0; reserved = 0 } ∷ record { ppn = 26; lpn = 4; cnt = 0; id = 21; ver = 0; kind = 0; reserved = 0 } ∷ []) 2 refl refl refl refl refl refl refl refl
+
+read-3-kept : exec (read 3) (world w26) ≡ record { answer = 0; world = world w26 }
+unfolding paged
+read-3-kept = refused-stays (read 3) (world w26) 0 (read-0 (world w26) (passes w26 true refl refl refl) 3 refl refl)
+
+begin-22 : exec (begin 22) (world w26) ≡ record { answer = 0; world = world w27 }
+unfolding paged p24 p25 p26 p27
+begin-22 = begins w26 refl refl refl 22 refl refl refl
+
+drop-22-3 : exec (dropPage 22 3) (world w27) ≡ record { answer = 0; world = world w28 }
+unfolding paged p24 p25 p26 p27
+drop-22-3 = first-drop w27 refl refl refl 22 refl 3 refl 28 refl refl
+
+commit-22-told : cutEvent (commit 22) (world w28) [] ≡ cutIn (commit 22) true (minus blank p28) (minus blank p28)
+unfolding paged p24 p25 p26 p27 p28
+commit-22-told = page-told w28 (commit 22) [] 28 p28 blank (commit-op w28 refl refl refl 22 refl 28 refl refl refl refl) refl
+
+commit-22-left : cutArray (commit 22) (world w28) [] ≡ flat (w29 .pages)
+unfolding paged p24 p25 p26 p27 p28
+commit-22-left = page-left w28 (commit 22) [] 28 p28 blank (commit-op w28 refl refl refl 22 refl 28 refl refl refl refl) refl p28 refl
+
+recover-29 : exec (recover small) (world (handed w29)) ≡ record { answer = 0; world = world w29 }
+unfolding paged map1 zone1 map2 zone2 p24 p25 p26 p27 p28
+recover-29 = recovers (handed w29) small 2 (mapped 22 23 ++ replicate 240 65535) (zoneData 4 zones2) (record { ppn = 24; lpn = 3; cnt = 1; id = 0; ver = 5; kind = 0; reserved = 0 } ∷ record { ppn = 25; lpn = 4; cnt = 1; id = 0; ver = 6; kind = 0; reserved = 0 } ∷ record { ppn = 26; lpn = 4; cnt = 0; id = 21; ver = 0; kind = 0; reserved = 0 } ∷ record { ppn = 28; lpn = 3; cnt = 1; id = 22; ver = 7; kind = 3; reserved = 0 } ∷ []) 2 refl refl refl refl refl refl refl refl
+
+read-3-dropped : exec (read 3) (world w29) ≡ record { answer = 14; world = world w29 }
+unfolding paged
+read-3-dropped = refused-stays (read 3) (world w29) 14 (read-14 (world w29) (passes w29 true refl refl refl) 3 refl refl)
+
+abbrev pub events7 : List Event
+events7 =
+    called (recover small) 0
+    ∷ called (begin 21) 0
+    ∷ called (write 21 4 ones) 0
+    ∷ called (dropPage 21 3) 0
+    ∷ cutIn (commit 21) true (minus blank mark21) (ands (minus blank mark21) butLater)
+    ∷ called (recover small) 0
+    ∷ called (read 3) 0
+    ∷ called (begin 22) 0
+    ∷ called (dropPage 22 3) 0
+    ∷ cutIn (commit 22) true (minus blank p28) (minus blank p28)
+    ∷ called (recover small) 0
+    ∷ called (read 3) 14
+    ∷ []
+
+pub run7 : Run small (live (world (many 8))) events7 (live (world w29))
+unfolding go fits bytes refused
+run7 =
+    answered (recover small) 0 recover-many refl refl
+    (answered (begin 21) 0 begin-21 refl tt
+    (answered (write 21 4 ones) 0 write-21-4 refl tt
+    (answered (dropPage 21 3) 0 drop-21-3 refl tt
+    (cut-short (commit 21) butLater commit-21-told commit-21-left refl tt
+    (recovered (world (handed w26)) recover-26
+    (answered (read 3) 0 read-3-kept refl tt
+    (answered (begin 22) 0 begin-22 refl tt
+    (answered (dropPage 22 3) 0 drop-22-3 refl tt
+    (cut-short (commit 22) [] commit-22-told commit-22-left refl tt
+    (recovered (world (handed w29)) recover-29
+    (answered (read 3) 14 read-3-dropped refl tt
+    (stop _))))))))))))
+
 -- ---- the whole of it
 abbrev pub events : List Event
-events = events1 ++ (events2 ++ (events3 ++ (events4 ++ (events5 ++ events6))))
+events = events1 ++ (events2 ++ (events3 ++ (events4 ++ (events5 ++ (events6 ++ events7)))))
 
-pub every-command-done : Run small (live (world w0)) events (live (world (many 8)))
-every-command-done = joined run1 (joined run2 (joined run3 (joined run4 (joined run5 run6))))
+pub every-command-done : Run small (live (world w0)) events (live (world w29))
+every-command-done = joined run1 (joined run2 (joined run3 (joined run4 (joined run5 (joined run6 run7)))))
 
 -- ---- its book
 -- the open changes apart: logical pages 3 and 4 hold these bytes
@@ -782,3 +914,8 @@ book4 = refl
 book5 : story (bookOf zeros zeros) events5 ≡ bookOf zeros ones
 unfolding told story
 book5 = refl
+
+-- the drop whose commit was cut one bit short is not in it, the one cut at its last bit is: logical page 3 is as never written
+book7 : story (bookOf zeros ones) events7 ≡ record { pages = never ∷ never ∷ never ∷ never ∷ holds ones ∷ replicate 11 never; changes = [] }
+unfolding told story mark21 p28
+book7 = refl

@@ -5,6 +5,7 @@ use mathlib.Core.List.{List, [], _∷_, _++_}
 use lib.Dec.{eqb, ltb, leb}
 use Rattle.model.specs.Lists.{keep, those}
 use Rattle.model.specs.Page.{isWhole, pageAt}
+use Rattle.model.specs.Recovery.{kindGood}
 use Rattle.model.specs.declared.Spare.{Spare}
 use Rattle.table.specs.declared.Looked.{Looked}
 use Rattle.table.specs.Looking.{lookOf}
@@ -45,7 +46,7 @@ numbersGood e = (not (eqb (e .id) 0) || eqb (e .cnt) 1) && cond (eqb (e .cnt) 0)
 -- "Kind or Reserved not 0; LPN ≥ L; .. TxID or TxVer 0xFFFFFFFF"
 unfoldable pub spareGood : ℕ → Spare → Bool
 spareGood logical e =
-    eqb (e .kind) 0
+    kindGood (e .kind)
     && (eqb (e .reserved) 0
     && (ltb (e .lpn) logical
     && (not (eqb (e .id) 4294967295)

@@ -1,4 +1,5 @@
 -- A small array on which the hypotheses of the laws hold, so that none of them is empty.
+use mathlib.Core.Bool.{false}
 use Prim.Native.Nat.{ℕ, zero, suc}
 use native.Mathlib.Omega.{arith}
 use mathlib.Core.Path.{_≡_, refl}
@@ -50,7 +51,7 @@ scanned5 = refl
 
 -- a checkpoint keeps its block, lets block 7 go and takes blocks 5 and 4
 place5 : Place
-place5 = record { id = 5; count = 2; lpns = 0 ∷ 0 ∷ []; ppns = 2 ∷ 0 ∷ [] }
+place5 = record { id = 5; count = 2; lpns = 0 ∷ 0 ∷ []; ppns = 2 ∷ 0 ∷ []; drops = false ∷ false ∷ [] }
 
 slid5 : slide shape8 after5 (place5 ∷ []) zones8 ≡ zonesOf (3 ∷ 5 ∷ 4 ∷ []) (2 ∷ []) [] 5
 unfolding shape8 place5 after5 erased8 page5 zones8 zonesOf padTo applyOp putPage splice ands classOf allFF zeroBits ones onesIn scanIn wholeFrom entryAt wholeAt blankAt pageAt part spareOf entryOf slide staying leaving judged holdsWanted isFull usedIn usedFrom those any wanted active onPages zonesTaken refill takeOne freeIndex find without pastBlock

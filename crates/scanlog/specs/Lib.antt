@@ -1,5 +1,4 @@
 pub mod Sublist
-pub mod Insert
 pub mod Occ
 pub mod Rising
 pub mod Log

@@ -13,10 +13,11 @@ use borrow.Author.Tests.{eq-eqb, ne-eqb}
 use Rattle.model.specs.Lists.{keep}
 use Rattle.model.specs.Geometry.{enterPage}
 use Rattle.model.specs.Zones.{Entry}
-use Rattle.model.specs.Recovery.{ofId, pagesOf, committed, txnsIn, span, top, applied, enter, redone}
+use Rattle.model.specs.Recovery.{ofId, pagesOf, committed, txnsIn, span, top, applied, leadsTo, enter, redone}
 use Rattle.arrays.specs.Tests.{Is, eqb-cases, those-append}
+use Rattle.ranks.specs.Best.{pages-many, pages-lone}
 use Rattle.scanlog.specs.Sublist.{those-last}
-use Rattle.scanlog.specs.Insert.{Insert, here, there, those-in, those-out}
+use Rattle.arrays.specs.Insert.{Insert, here, there, those-in, those-out}
 
 -- ---- the entries of an identifier
 pub ofId-append : (i : ℕ) (xs ys : List Entry) → ofId i (xs ++ ys) ≡ ofId i xs ++ ofId i ys
@@ -149,7 +150,7 @@ applied-mark floor {xs} {fs} e s a m v c =
 pub enter-append : (m : List ℕ) (es fs : List Entry) → enter m (es ++ fs) ≡ enter (enter m es) fs
 unfolding enter
 enter-append m [] fs = refl
-enter-append m (e ∷ es) fs = enter-append (enterPage m (e .lpn) (e .ppn)) es fs
+enter-append m (e ∷ es) fs = enter-append _ es fs
 
 -- no entry of the identifier is a mark
 abbrev pub NoMark : ℕ → List Entry → Type 0
@@ -163,15 +164,6 @@ noMark-apart e (y ∷ ys) n = ((λ c j q. c (n .0 q)), noMark-apart e ys (n .1))
 lone-apart : (e : Entry) (xs : List Entry) → e .id ≡ 0 → Apart e xs
 lone-apart e [] z = tt
 lone-apart e (y ∷ ys) z = ((λ c j q. j (q ∙ z)), lone-apart e ys z)
-
--- the pages of a transaction of several pages, and of a lone one
-pages-many : (xs : List Entry) (e : Entry) → e .id ≢ 0 → pagesOf xs e ≡ ofId (e .id) xs
-unfolding pagesOf
-pages-many xs e i = rw (ne-eqb (e .id) 0 i)
-
-pages-lone : (xs : List Entry) (e : Entry) → e .id ≡ 0 → pagesOf xs e ≡ e ∷ []
-unfolding pagesOf
-pages-lone xs e z = rw (eq-eqb (e .id) 0 z)
 
 module _ (floor : ℕ) (m : List ℕ) {xs fs : List Entry} (e : Entry) (s : Insert e xs fs) where
   -- a page of an identifier that has no mark changes nothing
@@ -188,7 +180,7 @@ module _ (floor : ℕ) (m : List ℕ) {xs fs : List Entry} (e : Entry) (s : Inse
       rw (applied-mark floor e s (noMark-apart e xs n) z v d, pages-many fs e i) (enter-append m (applied floor xs) (ofId (e .id) fs))
 
   -- a lone page sets its entry
-  pub redone-lone : e .id ≡ 0 → e .cnt ≡ 1 → e .ver ≡ suc (max floor (top xs)) → redone floor fs m ≡ enterPage (redone floor xs m) (e .lpn) (e .ppn)
+  pub redone-lone : e .id ≡ 0 → e .cnt ≡ 1 → e .ver ≡ suc (max floor (top xs)) → redone floor fs m ≡ enterPage (redone floor xs m) (e .lpn) (leadsTo e)
   unfolding redone enter
   redone-lone z c v =
       let d : e .cnt ≡ length (pagesOf fs e) = c ∙ rw (pages-lone fs e z) in

@@ -11,12 +11,12 @@ use lib.Dec.{eqb}
 use Rattle.model.specs.Lists.{any, allHeads, those}
 use Rattle.model.specs.Geometry.{enterPage}
 use Rattle.model.specs.Zones.{Entry, onPages}
-use Rattle.model.specs.Recovery.{ofId, top, enter, redone, pagesGood}
+use Rattle.model.specs.Recovery.{ofId, top, leadsTo, enter, redone, pagesGood}
 use Rattle.arrays.specs.Tests.{or-false-left, or-false-right}
 use Rattle.scanlog.specs.Sublist.{Sublist}
-use Rattle.scanlog.specs.Insert.{Insert}
+use Rattle.arrays.specs.Insert.{Insert}
 use Rattle.scanlog.specs.Log.{NoMark, redone-page, redone-mark, redone-lone, redone-none, top-insert}
-use Rattle.scanlog.specs.Good.{Plain, pagesGood-sub, pagesGood-insert, good-page, good-mark, good-lone, page-clears, mark-clears, top-sub}
+use Rattle.scanlog.specs.Good.{Plain, pagesGood-sub, pagesGood-insert, fine-page, fine-mark, fine-lone, page-clears, mark-clears, top-sub}
 
 -- saved: the map of the checkpoint, floor: its last version; es: the scan; map and version: what recovery makes of them
 pub record Logged (logical floor : ℕ) (saved : List ℕ) (es : List Entry) (map : List ℕ) (version : ℕ) : Type 0 where
@@ -34,7 +34,7 @@ module _ (logical floor : ℕ) (saved : List ℕ) {es fs : List Entry} (map : Li
   -- a page of an open change
   pub logged-page : e .id ≢ 0 → e .cnt ≡ 0 → e .ver ≡ 0 → NoMark (e .id) es → Logged logical floor saved fs map version
   logged-page i c v n = record {
-    good = pagesGood-insert logical e s (page-clears e es c v) (h .good) (good-page logical es e plain i c v);
+    good = pagesGood-insert logical e s (fine-page logical e plain i c v) (page-clears e es c) (h .good);
     made = redone-page floor saved e s c n ∙ h .made;
     last = omega (arith, h .last, top-insert e s);
   }
@@ -43,16 +43,16 @@ module _ (logical floor : ℕ) (saved : List ℕ) {es fs : List Entry} (map : Li
   pub logged-mark : e .id ≢ 0 → NoMark (e .id) es → e .cnt ≢ 0 → e .cnt ≡ length (ofId (e .id) fs) → e .ver ≡ suc version
       → Logged logical floor saved fs (enter map (ofId (e .id) fs)) (suc version)
   logged-mark i n z c v = record {
-    good = pagesGood-insert logical e s (mark-clears e es (λ r. n) (omega (arith, h .last))) (h .good) (good-mark logical es e plain i n z (omega (arith, h .last)));
+    good = pagesGood-insert logical e s (fine-mark logical e plain i z (omega arith)) (mark-clears e es (λ r. n) (omega (arith, h .last))) (h .good);
     made = redone-mark floor saved e s i n z c (omega (arith, h .last)) ∙ ap (λ (m : List ℕ). enter m (ofId (e .id) fs)) (h .made);
     last = omega (arith, h .last, top-insert e s);
   }
 
   -- a lone page
-  pub logged-lone : e .id ≡ 0 → e .cnt ≡ 1 → e .ver ≡ suc version → Logged logical floor saved fs (enterPage map (e .lpn) (e .ppn)) (suc version)
+  pub logged-lone : e .id ≡ 0 → e .cnt ≡ 1 → e .ver ≡ suc version → Logged logical floor saved fs (enterPage map (e .lpn) (leadsTo e)) (suc version)
   logged-lone i c v = record {
-    good = pagesGood-insert logical e s (mark-clears e es (λ r. absurd (r i)) (omega (arith, h .last))) (h .good) (good-lone logical es e plain i c (omega (arith, h .last)));
-    made = redone-lone floor saved e s i c (omega (arith, h .last)) ∙ ap (λ (m : List ℕ). enterPage m (e .lpn) (e .ppn)) (h .made);
+    good = pagesGood-insert logical e s (fine-lone logical e plain i c (omega arith)) (mark-clears e es (λ r. absurd (r i)) (omega (arith, h .last))) (h .good);
+    made = redone-lone floor saved e s i c (omega (arith, h .last)) ∙ ap (λ (m : List ℕ). enterPage m (e .lpn) (leadsTo e)) (h .made);
     last = omega (arith, h .last, top-insert e s);
   }
 

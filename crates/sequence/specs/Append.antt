@@ -23,7 +23,7 @@ use Rattle.arrays.specs.Arrays.{ProgramOk, image-ok, programmed-whole, programm
 use Rattle.front.specs.Newest.{SameFront}
 use Rattle.front.specs.Front.{front-away}
 use Rattle.scanlog.specs.Occ.{occ}
-use Rattle.scanlog.specs.Insert.{Insert, insert-last}
+use Rattle.arrays.specs.Insert.{Insert, insert-last}
 use Rattle.scanlog.specs.Log.{ofId-last}
 use Rattle.scanlog.specs.Logged.{Logged}
 use Rattle.scanlog.specs.Tidy.{Tidy, next-data, next-fits, next-erased, tidy-program, scan-order-is-write-order, tidy-cut, scan-torn}

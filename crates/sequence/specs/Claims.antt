@@ -16,7 +16,7 @@ use Rattle.model.specs.World.{World, Op, program}
 use Rattle.model.specs.Frame.{lentOk, isIdle}
 use Rattle.model.specs.Transactions.{readAnswer}
 use Rattle.model.specs.Strides.{isCheckpoint, isReclaim, picked, planFormat}
-use Rattle.model.specs.Commands.{Call, format, recover, begin, write, lone, commit, abort, read, checkpoint, reclaim, plan, carried, exec}
+use Rattle.model.specs.Commands.{Call, format, recover, begin, write, dropPage, lone, commit, abort, read, checkpoint, reclaim, plan, carried, exec}
 use Rattle.model.specs.Book.{Book, Event, called, cutIn, cutBetween, blank, tell, story, pageOf, contentAnswer}
 use Rattle.model.specs.Sequence.{fits, Phase, live, dark, arrayOf, Allowed, isRecovery, cutEvent, cutArray, Step, call, cut, between, back, failed, lost, again, Run, stop, next, Formatted}
 use Rattle.model.specs.Torn.{OwnTorn}
@@ -126,6 +126,7 @@ any-call g (format h) w i = absurd (false≢true (sym i))
 any-call g (recover h) w i = absurd (false≢true (sym i))
 any-call g (begin id) w i = tt
 any-call g (write id lpn d) w i = tt
+any-call g (dropPage id lpn) w i = tt
 any-call g (lone lpn d) w i = tt
 any-call g (commit id) w i = tt
 any-call g (abort id) w i = tt
@@ -148,6 +149,7 @@ Admitted (format g) = InShape g
 Admitted (recover g) = InShape g
 Admitted (begin id) = id < 4294967296
 Admitted (write id lpn d) = (id < 4294967296) × ((lpn < 65536) × Bytes d)
+Admitted (dropPage id lpn) = (id < 4294967296) × (lpn < 65536)
 Admitted (lone lpn d) = (lpn < 65536) × Bytes d
 Admitted (commit id) = id < 4294967296
 Admitted (abort id) = id < 4294967296
@@ -165,6 +167,7 @@ any-fits (format g) h = shape-fits g h
 any-fits (recover g) h = shape-fits g h
 any-fits (begin id) h = lt-ltb _ _ h
 any-fits (write id lpn d) h = and-both (ltb id 4294967296) _ (lt-ltb _ _ (h .0)) (and-both (ltb lpn 65536) _ (lt-ltb _ _ (h .1 .0)) (true-bytes d (h .1 .1)))
+any-fits (dropPage id lpn) h = and-both (ltb id 4294967296) _ (lt-ltb _ _ (h .0)) (lt-ltb _ _ (h .1))
 any-fits (lone lpn d) h = and-both (ltb lpn 65536) _ (lt-ltb _ _ (h .0)) (true-bytes d (h .1))
 any-fits (commit id) h = lt-ltb _ _ h
 any-fits (abort id) h = lt-ltb _ _ h
@@ -203,6 +206,7 @@ ReadRight g b (called (format h) n) = Unit {0}
 ReadRight g b (called (recover h) n) = Unit {0}
 ReadRight g b (called (begin id) n) = Unit {0}
 ReadRight g b (called (write id lpn d) n) = Unit {0}
+ReadRight g b (called (dropPage id lpn) n) = Unit {0}
 ReadRight g b (called (lone lpn d) n) = Unit {0}
 ReadRight g b (called (commit id) n) = Unit {0}
 ReadRight g b (called (abort id) n) = Unit {0}
@@ -226,6 +230,7 @@ step-right g b p e q (call (format h) w f a) s = tt
 step-right g b p e q (call (recover h) w f a) s = tt
 step-right g b p e q (call (begin id) w f a) s = tt
 step-right g b p e q (call (write id lpn d) w f a) s = tt
+step-right g b p e q (call (dropPage id lpn) w f a) s = tt
 step-right g b p e q (call (lone lpn d) w f a) s = tt
 step-right g b p e q (call (commit id) w f a) s = tt
 step-right g b p e q (call (abort id) w f a) s = tt
@@ -242,6 +247,7 @@ step-right g b p e q (failed c w i f a r) s = not-read c i (exec c w .answer)
     not-read (recover h) i n = tt
     not-read (begin id) i n = tt
     not-read (write id lpn d) i n = tt
+    not-read (dropPage id lpn) i n = tt
     not-read (lone lpn d) i n = tt
     not-read (commit id) i n = tt
     not-read (abort id) i n = tt

@@ -10,13 +10,13 @@ use lib.ListN.{length, getD, set}
 use lib.Seq.{getD-set-same, getD-set-other, take-all}
 use lib.Dec.{eqb, leb, ltb}
 use borrow.Author.Tests.{eqb-true, eqb-false, ltb-true, ltb-false}
-use Rattle.model.specs.Page.{pageAt, spareOf, wholeAt, blankAt}
+use Rattle.model.specs.Page.{pageAt, dataAt, spareOf, wholeAt, blankAt}
 use Rattle.model.specs.Geometry.{dataPage}
 use Rattle.model.specs.Zones.{Entry, entryOf}
 use Rattle.model.specs.Answers.{refused}
 use Rattle.model.specs.World.{World, Plan, applyOp}
 use Rattle.model.specs.Frame.{freePlace, noPlace, badId, isIdle}
-use Rattle.model.specs.Transactions.{placeOf, withPlace, withVersion, cleanPages, nextPage, zoneShort, spent, dataBytes, heldAt, heldPage, entered, markPlan, forgetPlan, planCommit}
+use Rattle.model.specs.Transactions.{placeOf, withPlace, withVersion, cleanPages, nextPage, zoneShort, spent, pageKind, changeBytes, heldAt, heldPage, heldDrop, entered, markPlan, forgetPlan, planCommit}
 use Rattle.model.specs.Commands.{commit, plan, carried}
 use Rattle.model.specs.Book.{Book, Write, entering, changing, writesOf, close, enterAll}
 use Rattle.model.specs.declared.Geometry.{Geometry}
@@ -28,19 +28,21 @@ use Rattle.arrays.specs.Image.{SpareFits}
 use Rattle.arrays.specs.Whole.{whole-not-blank}
 use Rattle.front.specs.Kept.{kept-away}
 use Rattle.scanlog.specs.Occ.{occ}
-use Rattle.scanlog.specs.Insert.{Insert, insert-length}
+use Rattle.arrays.specs.Insert.{Insert, insert-length}
 use Rattle.scanlog.specs.Log.{ofId-other, ofId-in}
+use Rattle.scanlog.specs.Good.{change-kind, change-drop}
 use Rattle.scanlog.specs.Logged.{Logged, logged-mark}
 use Rattle.scanlog.specs.Open.{opens-set, open-noMark, open-length, open-mark}
-use Rattle.sequence.specs.Contents.{Contents}
+use Rattle.sequence.specs.Contents.{Contents, contentOf}
 use Rattle.sequence.specs.Places.{placeAt, places-set, free-ok, Found, place-found}
-use Rattle.sequence.specs.Writes.{Laid, Writes, Enters, Entered, WholeSame, writeAt, laid-keep, enters-all, held-long}
+use Rattle.sequence.specs.Writes.{Laid, Writes, Enters, Entered, WholeSame, writeAt, laid-keep, stored-keep, enters-all, held-long}
 use Rattle.sequence.specs.Live.{Live, live-range, live-logged, scanned}
 use Rattle.sequence.specs.View.{View, yes, view-test, view-gate, view-cond, idle-only, Keeps, done-live, view-keeps, idle-calm}
 use Rattle.sequence.specs.Abort.{changing-close, found-apart, forget-live}
 use Rattle.sequence.specs.Lone.{changing-grow, room-clean}
+use Rattle.sequence.specs.Write.{kind-small}
 use Rattle.sequence.specs.PlaceIn.{PlaceIn, place-in, first-passes, good-name}
-use Rattle.sequence.specs.Append.{Appends, appends, appended, next-is-data, next-blank, next-free, append-whole, append-data, append-spare, append-keeps, append-tidy, rescanned, append-in, append-turn, append-front, append-sound, append-contents}
+use Rattle.sequence.specs.Append.{Appends, appends, appended, next-is-data, next-mapped, next-blank, next-free, append-whole, append-data, append-spare, append-keeps, append-tidy, rescanned, append-in, append-turn, append-front, append-sound, append-contents}
 
 -- ---- the plan
 pub data Commits (w : World) (id : ℕ) : Plan → Type 0 where
@@ -115,7 +117,7 @@ module _ (w : World) (b : Book) (h : Live w b) (id i : ℕ) (idle : isIdle (w .s
 
   -- the spare area of the mark
   abbrev markSpare : Spare
-  markSpare = record { lpn = heldPage p; cnt = p .count; id = p .id; ver = v; kind = 0; reserved = 0 }
+  markSpare = record { lpn = heldPage p; cnt = p .count; id = p .id; ver = v; kind = pageKind (heldDrop p); reserved = 0 }
 
   mark-fits : SpareFits markSpare
   mark-fits = record {
@@ -123,7 +125,7 @@ module _ (w : World) (b : Book) (h : Live w b) (id i : ℕ) (idle : isIdle (w .s
     cnt = omega (arith, inside .few);
     id = own .small;
     ver = omega (arith, version-small);
-    kind = omega arith;
+    kind = kind-small (heldDrop p);
     reserved = omega arith;
   }
 
@@ -151,7 +153,7 @@ module _ (w : World) (b : Book) (h : Live w b) (id i : ℕ) (idle : isIdle (w .s
   qs = set (p .ppns) n k
 
   abbrev map′ : List ℕ
-  map′ = entered (w .map) (p .lpns) qs (p .count)
+  map′ = entered (w .map) (p .lpns) qs (p .drops) (p .count)
 
   keeps : WholeSame (w .array) ys
   keeps = append-keeps w b h clean markData markSpare mark-long mark-small mark-fits
@@ -165,10 +167,10 @@ module _ (w : World) (b : Book) (h : Live w b) (id i : ℕ) (idle : isIdle (w .s
   qs-new : getD qs n 0 ≡ k
   qs-new = getD-set-same (p .ppns) n k 0 (omega (arith, own .ppns, inside .few))
 
-  marked : Laid ys (w .map) (p .id) k (writeAt ws n .bytes)
+  marked : Laid ys (w .map) (p .id) k
   marked = record {
+    real = next-mapped w b h clean markData markSpare mark-long mark-small mark-fits;
     whole = append-whole w b h clean markData markSpare mark-long mark-small mark-fits;
-    bytes = append-data w b h clean markData markSpare mark-long mark-small mark-fits ∙ sym (own .held n count-is);
     owner = ap (λ (s : Spare). s .id) (append-spare w b h clean markData markSpare mark-long mark-small mark-fits);
     free = next-free w b h clean markData markSpare mark-long mark-small mark-fits;
   }
@@ -177,11 +179,17 @@ module _ (w : World) (b : Book) (h : Live w b) (id i : ℕ) (idle : isIdle (w .s
   old-new : (j : ℕ) → suc j < p .count → getD (p .ppns) j 0 ≢ k
   old-new j l q = clash blank (whole-not-blank (w .array) k (subst (λ (x : ℕ). wholeAt (w .array) x ≡ true) q (own .laid j l .whole)))
 
-  laid-at : (j : ℕ) → j < p .count → Is j n → Laid ys (w .map) (p .id) (getD qs j 0) (writeAt ws j .bytes)
+  laid-at : (j : ℕ) → j < p .count → Is j n → Laid ys (w .map) (p .id) (getD qs j 0)
   laid-at j l (inl q) = rw (q .0, qs-new) marked
   laid-at j l (inr q) =
       let m : suc j < p .count = omega (arith, q .0) in
-      rw (qs-old j m) (laid-keep (w .array) ys (w .map) (w .map) (p .id) _ _ keeps (own .laid j m .free) (own .laid j m))
+      rw (qs-old j m) (laid-keep (w .array) ys (w .map) (w .map) (p .id) _ keeps (own .laid j m .free) (own .laid j m))
+
+  stored-at : (j : ℕ) → j < p .count → Is j n → writeAt ws j .content ≡ contentOf (getD (p .drops) j false) (dataAt ys (getD qs j 0))
+  stored-at j l (inl q) = rw (q .0, qs-new, append-data w b h clean markData markSpare mark-long mark-small mark-fits) (own .held n count-is)
+  stored-at j l (inr q) =
+      let m : suc j < p .count = omega (arith, q .0) in
+      rw (qs-old j m) (stored-keep (w .array) ys (getD (p .drops) j false) _ _ keeps (own .laid j m .whole) (own .stored j m))
 
   page-at : (j : ℕ) → j < p .count → Is j n → dataPage g (getD qs j 0) ≡ true
   page-at j l (inl q) = rw (q .0, qs-new) (next-is-data w b h clean markData markSpare mark-long mark-small mark-fits)
@@ -191,27 +199,28 @@ module _ (w : World) (b : Book) (h : Live w b) (id i : ℕ) (idle : isIdle (w .s
   apart-at j m l c (inl q) = rw (q .0, qs-new, qs-old j (omega (arith, q .0))) (old-new j (omega (arith, q .0)))
   apart-at j m l c (inr q) = rw (qs-old j (omega (arith, q .0)), qs-old m (omega (arith, q .0))) (own .apart j m l (omega (arith, q .0)))
 
-  enters : Enters g ys (w .map) (p .lpns) qs ws (p .id) (p .count)
+  enters : Enters g ys (w .map) (p .lpns) qs (p .drops) ws (p .id) (p .count)
   enters = record {
     names = own .names;
     low = λ j l. omega (arith, lpn-low j l, h .sound .wide);
     laid = λ j l. laid-at j l (eqb-cases j n);
+    stored = λ j l. stored-at j l (eqb-cases j n);
     page = λ j l. page-at j l (eqb-cases j n);
     apart = λ j m l c. apart-at j m l c (eqb-cases m n);
   }
 
-  all-in : Entered g ys (w .map) (p .lpns) qs (b .pages) ws (p .count)
-  all-in = enters-all g ys (w .map) (p .lpns) qs (b .pages) ws (p .id) (p .count) (live-range w b h) enters (own .count) (h .sound .good)
+  all-in : Entered g ys (w .map) (p .lpns) qs (p .drops) (b .pages) ws (p .count)
+  all-in = enters-all g ys (w .map) (p .lpns) qs (p .drops) (b .pages) ws (p .id) (p .count) enters (own .count) (h .sound .good)
       (append-contents w b h clean markData markSpare mark-long mark-small mark-fits) (p .count) (omega arith)
 
   contents : Contents ys map′ (enterAll (b .pages) ws)
   contents = subst (λ (l : List Write). Contents ys map′ (enterAll (b .pages) l)) (take-all (p .count) ws (omega (arith, own .count))) (all-in .contents)
 
   -- the pages of the other changes stay unmapped
-  others-free : (j : ℕ) → j < 8 → placeAt (set ps i freePlace) j .id ≢ 0 → (x : ℕ) (d : List ℕ) → Laid (w .array) (w .map) (placeAt (set ps i freePlace) j .id) x d → occ x map′ ≡ 0
-  others-free j l z x d y = go (eqb-cases j i)
+  others-free : (j : ℕ) → j < 8 → placeAt (set ps i freePlace) j .id ≢ 0 → (x : ℕ) → Laid (w .array) (w .map) (placeAt (set ps i freePlace) j .id) x → occ x map′ ≡ 0
+  others-free j l z x y = go (eqb-cases j i)
     where
-      other-page : placeAt ps j .id ≢ p .id → Laid (w .array) (w .map) (placeAt ps j .id) x d → (m : ℕ) → m < p .count → Is m n → x ≢ getD qs m 0
+      other-page : placeAt ps j .id ≢ p .id → Laid (w .array) (w .map) (placeAt ps j .id) x → (m : ℕ) → m < p .count → Is m n → x ≢ getD qs m 0
       other-page e a m c (inl q) = rw (q .0, qs-new) (λ r. clash blank (whole-not-blank (w .array) k (subst (λ (t : ℕ). wholeAt (w .array) t ≡ true) r (a .whole))))
       other-page e a m c (inr q) =
           let u : suc m < p .count = omega (arith, q .0) in
@@ -221,9 +230,9 @@ module _ (w : World) (b : Book) (h : Live w b) (id i : ℕ) (idle : isIdle (w .s
       go (inl q) = absurd (z (rw (q .0, getD-set-same ps i freePlace noPlace (f .low))))
       go (inr q) =
           let e : placeAt (set ps i freePlace) j ≡ placeAt ps j = getD-set-other ps i j freePlace noPlace (q .0) in
-          let a : Laid (w .array) (w .map) (placeAt ps j .id) x d = rw e at y in
+          let a : Laid (w .array) (w .map) (placeAt ps j .id) x = rw e at y in
           let t : placeAt ps j .id ≢ p .id = h .places .apart i j (f .low) (omega (arith, h .changing .eight)) (λ r. q .0 (sym r)) some in
-          omega (arith, a .free, all-in .others x (λ m c. other-page t a m c (eqb-cases m n)))
+          omega (arith, a .free, all-in .others x (a .real) (λ m c. other-page t a m c (eqb-cases m n)))
 
   -- what is scanned after it
   abbrev es : List Entry
@@ -238,11 +247,11 @@ module _ (w : World) (b : Book) (h : Live w b) (id i : ℕ) (idle : isIdle (w .s
   logged =
       let o = h .opens i (f .low) some in
       let l = logged-mark (g .logical) (h .saved .version) (h .saved .map) (w .map) (w .state .version) (live-logged w b h) (entryOf k markSpare) put-in
-      (record { kind = refl; reserved = refl; lpn = lpn-low n (omega arith); id = held-name′; ver = λ q. absurd (omega (arith, q, version-small)) }) some (open-noMark p (scanned w) o)
+      (record { kind = change-kind (heldDrop p); reserved = refl; lpn = lpn-low n (omega arith); id = held-name′; ver = λ q. absurd (omega (arith, q, version-small)) }) some (open-noMark p (scanned w) o)
       many (count-is ∙ ap suc (sym (open-length p (scanned w) o)) ∙ sym (insert-length _ (ofId-in (p .id) _ put-in refl))) (add-one (w .state .version)) in
       subst (λ (u : ℕ). Logged (g .logical) (h .saved .version) (h .saved .map) es map′ u) (sym (add-one (w .state .version)))
       (subst (λ (m : List ℕ). Logged (g .logical) (h .saved .version) (h .saved .map) es m (suc (w .state .version)))
-      (open-mark p (scanned w) o es (w .map) (entryOf k markSpare) many (omega (arith, own .ppns, inside .few)) refl
+      (open-mark p (scanned w) o es (w .map) (entryOf k markSpare) many (omega (arith, own .ppns, inside .few)) refl (change-drop (heldDrop p))
       (append-turn w b h clean markData markSpare mark-long mark-small mark-fits)) l)
 
   mark-id : entryOf k markSpare .id ≡ p .id
@@ -254,7 +263,7 @@ module _ (w : World) (b : Book) (h : Live w b) (id i : ℕ) (idle : isIdle (w .s
   told = record { pages = enterAll (b .pages) ws; changes = close id (b .changes) }
 
   pub mark-live : Live (carried (markPlan i p w) w .world) told
-  unfolding carried markPlan withPlace withVersion dataBytes
+  unfolding carried markPlan withPlace withVersion changeBytes
   mark-live = record {
     saved = h .saved;
     sound = append-sound w b h clean markData markSpare mark-long mark-small mark-fits map′ v (enterAll (b .pages) ws) logged (all-in .good) (all-in .long ∙ h .sound .wide) contents version-small;
@@ -273,7 +282,7 @@ module _ (w : World) (b : Book) (h : Live w b) (id i : ℕ) (idle : isIdle (w .s
   -- it appends the mark
   pub mark-appends : Appends w b (markPlan i p w)
   mark-appends = appends w b h clean markData markSpare mark-long mark-small mark-fits (markPlan i p w)
-      (unfold markPlan dataBytes in refl) (unfold markPlan withPlace withVersion in refl) (unfold markPlan withPlace withVersion in refl)
+      (unfold markPlan changeBytes in refl) (unfold markPlan withPlace withVersion in refl) (unfold markPlan withPlace withVersion in refl)
 
 -- "With nothing written, commit is done with no page and no version"
 nothing-written : (w : World) (b : Book) (h : Live w b) (id i : ℕ) → Found (w .state .places) id i → placeAt (w .state .places) i .count ≡ 0

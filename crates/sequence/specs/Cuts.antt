@@ -7,9 +7,9 @@ use mathlib.Core.List.{List}
 use lib.Dec.{ltb}
 use Rattle.model.specs.Bytes.{bytes}
 use Rattle.model.specs.World.{World, Plan, Op, refuse, none, program, applyOp, cutOp, turn, dueBits, turnedBits, everyTurned}
-use Rattle.model.specs.Transactions.{placeOf, nextPage, heldOp, writePlan, lonePlan, forgetPlan, planBegin, planWrite, planLone, planCommit, planAbort}
+use Rattle.model.specs.Transactions.{placeOf, nextPage, heldOp, writePlan, gone, lonePlan, forgetPlan, planBegin, planWrite, planDrop, planLone, planCommit, planAbort}
 use Rattle.model.specs.Strides.{freeStride, planReclaim, withWork, withZones}
-use Rattle.model.specs.Commands.{Call, begin, write, lone, commit, abort, read, checkpoint, reclaim, plan, carried}
+use Rattle.model.specs.Commands.{Call, begin, write, dropPage, lone, commit, abort, read, checkpoint, reclaim, plan, carried}
 use Rattle.model.specs.Book.{Book, Content, cutIn, tell, entering}
 use Rattle.model.specs.Sequence.{fits, cutEvent, cutArray}
 use Rattle.model.specs.declared.Place.{Place}
@@ -24,7 +24,7 @@ use Rattle.sequence.specs.Append.{Appends}
 use Rattle.sequence.specs.Begin.{Begins, begin-view}
 use Rattle.sequence.specs.Abort.{Aborts, abort-view}
 use Rattle.sequence.specs.Lone.{Lones, lone-view, lone-live, lone-appends}
-use Rattle.sequence.specs.Write.{WritesTo, write-view, write-live, page-appends, write-bytes, write-found}
+use Rattle.sequence.specs.Write.{WritesTo, write-view, drop-view, gone-small, write-live, page-appends, write-bytes, add-found}
 use Rattle.sequence.specs.Commit.{Commits, forgets, marks, commit-view, mark-live, mark-appends}
 use Rattle.sequence.specs.Checkpointing.{checkpoint-cuts}
 use Rattle.sequence.specs.Reclaiming.{Reclaims, copies, frees, reclaim-view, copy-live, copy-appends, free-cut}
@@ -134,11 +134,11 @@ commit-cuts w b id lets h = go (planCommit id w) refl (commit-view id w)
     go p e (no n r) = cut-refused (commit id) w b lets h n e
     go p e (yes q v) = does q e v
 
--- of a plan that writes or refuses
-pub write-cut : (w : World) (b : Book) (id lpn : ℕ) (d : List ℕ) (lets : List ℕ) → Live w b → fits (write id lpn d) ≡ true → (q : Plan) → View w (WritesTo w id lpn d) q
+-- of a plan that adds a page or refuses
+pub add-cut : (w : World) (b : Book) (id lpn : ℕ) (drop : Bool) (d : List ℕ) (lets : List ℕ) → Live w b → Bytes d → (q : Plan) → View w (WritesTo w id lpn drop d) q
     → Stored (w .state .geometry) (cutOp (q .state .geometry .pages) (q .op) lets (w .array)) (b .pages)
-write-cut w b id lpn d lets h f q (no n r) = unfold cutOp turn in live-stored w b h
-write-cut w b id lpn d lets h f q (yes p v) = rw (v .is) (does (eqb-cases (at .count) 0))
+add-cut w b id lpn drop d lets h small q (no n r) = unfold cutOp turn in live-stored w b h
+add-cut w b id lpn drop d lets h small q (yes p v) = rw (v .is) (does (eqb-cases (at .count) 0))
   where
     i : ℕ
     i = placeOf (w .state .places) id
@@ -146,16 +146,22 @@ write-cut w b id lpn d lets h f q (yes p v) = rw (v .is) (does (eqb-cases (at .c
     at : Place
     at = placeAt (w .state .places) i
 
-    does : Is (at .count) 0 → Stored (w .state .geometry) (cutOp (writePlan i at lpn d w .state .geometry .pages) (writePlan i at lpn d w .op) lets (w .array)) (b .pages)
+    does : Is (at .count) 0 → Stored (w .state .geometry) (cutOp (writePlan i at lpn drop d w .state .geometry .pages) (writePlan i at lpn drop d w .op) lets (w .array)) (b .pages)
     does (inl z) = unfold writePlan heldOp cutOp turn in rw (z .1) (live-stored w b h)
     does (inr z) =
-        let fd = write-found w b id lpn d h f v in
-        append-cut w b _ lets (writePlan i at lpn d w) h (page-appends w b h id lpn d (v .idle) (v .long) (write-bytes w b id lpn d h f) (v .low) i fd (v .room) (z .0) (v .clean (z .0)))
-        (write-live w b h id lpn d (v .idle) (v .long) (write-bytes w b id lpn d h f) (v .low) i fd (v .room) (v .clean)) (b .pages) (λ t. refl) (λ t. refl)
+        let fd = add-found w b id lpn drop d h small v in
+        append-cut w b _ lets (writePlan i at lpn drop d w) h (page-appends w b h id lpn drop d (v .idle) (v .long) small (v .low) i fd (v .room) (z .0) (v .clean (z .0)))
+        (write-live w b h id lpn drop d (v .idle) (v .long) small (v .low) i fd (v .room) (v .clean)) (b .pages) (λ t. refl) (λ t. refl)
 
 pub write-cuts : (w : World) (b : Book) (id lpn : ℕ) (d : List ℕ) (lets : List ℕ) → Live w b → fits (write id lpn d) ≡ true → CutKeeps (write id lpn d) w b lets
 unfolding plan
-write-cuts w b id lpn d lets h f = cut-quiet (write id lpn d) w b lets (unfold entering in refl) (unfold cutArray in write-cut w b id lpn d lets h f (planWrite id lpn d w) (write-view id lpn d w))
+write-cuts w b id lpn d lets h f =
+    cut-quiet (write id lpn d) w b lets (unfold entering in refl) (unfold cutArray in add-cut w b id lpn false d lets h (write-bytes id lpn d f) (planWrite id lpn d w) (write-view id lpn d w))
+
+pub drop-cuts : (w : World) (b : Book) (id lpn : ℕ) (lets : List ℕ) → Live w b → CutKeeps (dropPage id lpn) w b lets
+unfolding plan
+drop-cuts w b id lpn lets h =
+    cut-quiet (dropPage id lpn) w b lets (unfold entering in refl) (unfold cutArray in add-cut w b id lpn true gone lets h gone-small (planDrop id lpn w) (drop-view id lpn w))
 
 pub checkpoint-cuts-kept : (w : World) (b : Book) (lets : List ℕ) → Live w b → CutKeeps checkpoint w b lets
 checkpoint-cuts-kept w b lets h = cut-quiet checkpoint w b lets (unfold entering in refl) (checkpoint-cuts w b h lets)

@@ -15,7 +15,7 @@ use Rattle.model.specs.Page.{classOf, pageAt}
 use Rattle.model.specs.Answers.{refused}
 use Rattle.model.specs.World.{World, Plan, refuse, dueBits, turnedBits, cutOp, programs}
 use Rattle.model.specs.Frame.{noPlace, frameOk, isIdle, gate}
-use Rattle.model.specs.Transactions.{unless, placeOf, zoneShort, longestChange, writePlan, planWrite}
+use Rattle.model.specs.Transactions.{unless, placeOf, zoneShort, longestChange, writePlan, addPlan, planWrite}
 use Rattle.model.specs.Commands.{write, carried}
 use Rattle.model.specs.Book.{Book, Event, called, cutIn, blank, tell, story, entering}
 use Rattle.model.specs.Sequence.{fits, Phase, live, dark, arrayOf, Step, Run, stop, next, Formatted}
@@ -26,8 +26,8 @@ use Rattle.model.specs.declared.Class.the-variants.{Torn}
 use Rattle.arrays.specs.Tests.{and-left, and-right}
 use Rattle.sequence.specs.Places.{placeAt}
 use Rattle.sequence.specs.View.{View, yes, view-test, view-cond}
-use Rattle.sequence.specs.Write.{WritesTo, write-view, view-shape, view-live}
-use Rattle.sequence.specs.Cuts.{quiet-told, write-cut}
+use Rattle.sequence.specs.Write.{WritesTo, write-view, write-told, write-bytes, add-shape, add-live}
+use Rattle.sequence.specs.Cuts.{quiet-told, add-cut}
 use Rattle.sequence.specs.Theorem.{Holds, step-holds, holds-kept, start-holds}
 use Rattle.sequence.specs.Claims.{holds-torn}
 
@@ -42,7 +42,7 @@ formerWrite id lpn d w =
     let i = placeOf (w .state .places) id in
     let p = getD (w .state .places) i noPlace in
     cond (eqb (planWrite id lpn d w .answer) 10 && hasRoom p)
-    (cond (zoneShort w) (refuse w 12) (writePlan i p lpn d w))
+    (cond (zoneShort w) (refuse w 12) (writePlan i p lpn false d w))
     (planWrite id lpn d w)
 
 -- a cut in it: what is told of it, and the array that it leaves
@@ -104,11 +104,11 @@ module _ (id lpn : ℕ) (d : List ℕ) (w : World) where
 
   -- ---- it is document 01's write: a page up to the 64th goes; at 64, and where this layer answers anything but 10, it is this layer's
   module _ (pass : gate false w ≡ 0) (long : eqb (length d) 512 ≡ true) (in-range : leb (w .state .geometry .logical) lpn ≡ false) (open-at : leb 8 i ≡ false) where
-    pub former-done : at .count < 64 → (not (eqb (at .count) 0) && zoneShort w) ≡ false → formerWrite id lpn d w ≡ writePlan i at lpn d w
-    unfolding formerWrite hasRoom planWrite writePlan
+    pub former-done : at .count < 64 → (not (eqb (at .count) 0) && zoneShort w) ≡ false → formerWrite id lpn d w ≡ writePlan i at lpn false d w
+    unfolding formerWrite hasRoom planWrite addPlan writePlan
     former-done room short = by (leb longestChange (at .count)) refl
       where
-        by : (t : Bool) → leb longestChange (at .count) ≡ t → formerWrite id lpn d w ≡ writePlan i at lpn d w
+        by : (t : Bool) → leb longestChange (at .count) ≡ t → formerWrite id lpn d w ≡ writePlan i at lpn false d w
         by true t =
             let some : eqb (at .count) 0 ≡ false = ne-eqb (at .count) 0 (λ z. omega (arith, leb-true longestChange (at .count) t, z)) in
             let none : zoneShort w ≡ false = rw some at short in
@@ -119,7 +119,7 @@ module _ (id lpn : ℕ) (d : List ℕ) (w : World) where
   unfolding formerWrite hasRoom
   former-full full = rw (le-ltb (at .count) 64 full) (either (eqb (planWrite id lpn d w .answer) 10))
     where
-      either : (t : Bool) → cond (t && false) (cond (zoneShort w) (refuse w 12) (writePlan i at lpn d w)) (planWrite id lpn d w) ≡ planWrite id lpn d w
+      either : (t : Bool) → cond (t && false) (cond (zoneShort w) (refuse w 12) (writePlan i at lpn false d w)) (planWrite id lpn d w) ≡ planWrite id lpn d w
       either true = refl
       either false = refl
 
@@ -128,8 +128,8 @@ module _ (id lpn : ℕ) (d : List ℕ) (w : World) where
   former-same e = rw e refl
 
   -- ---- it writes, or refuses
-  longer : planWrite id lpn d w .answer ≡ 10 → at .count < 64 → zoneShort w ≡ false → WritesTo w id lpn d (writePlan i at lpn d w)
-  unfolding planWrite
+  longer : planWrite id lpn d w .answer ≡ 10 → at .count < 64 → zoneShort w ≡ false → WritesTo w id lpn false d (writePlan i at lpn false d w)
+  unfolding planWrite addPlan
   longer e room short =
       ten-gate w _ (λ idle.
       ten-test w (not (eqb (length d) 512)) 11 _ (λ z. omega (arith, z)) (λ a.
@@ -149,11 +149,11 @@ module _ (id lpn : ℕ) (d : List ℕ) (w : World) where
   unfolding hasRoom
   room-in h = ltb-true (at .count) 64 h
 
-  pub former-view : View w (WritesTo w id lpn d) (formerWrite id lpn d w)
+  pub former-view : View w (WritesTo w id lpn false d) (formerWrite id lpn d w)
   unfolding formerWrite refused
   former-view =
-      view-cond w (WritesTo w id lpn d) (eqb (planWrite id lpn d w .answer) 10 && hasRoom at) _ _ (λ t.
-      view-test w (WritesTo w id lpn d) (zoneShort w) 12 _ refl (λ short.
+      view-cond w (WritesTo w id lpn false d) (eqb (planWrite id lpn d w .answer) 10 && hasRoom at) _ _ (λ t.
+      view-test w (WritesTo w id lpn false d) (zoneShort w) 12 _ refl (λ short.
       yes _ (longer (eqb-true _ 10 (and-left (eqb (planWrite id lpn d w .answer) 10) _ t)) (room-in (and-right (eqb (planWrite id lpn d w .answer) 10) _ t)) short)))
       (λ t. write-view id lpn d w)
 
@@ -161,12 +161,12 @@ module _ (id lpn : ℕ) (d : List ℕ) (w : World) where
 former-holds : (g : Geometry) (b : Book) (p : Phase) (e : Event) (q : Phase) → FormerStep g p e q → Holds g b p → Holds g (tell b e) q
 former-holds g b p e q (step s) h = step-holds g b p e q s h
 former-holds g b p e q (wrote id lpn d w f) h = record {
-  shape = unfold carried in (view-shape w b id lpn d (h .world) f _ (former-view id lpn d w) ∙ h .shape);
-  world = view-live w b id lpn d (h .world) f _ (former-view id lpn d w);
+  shape = unfold carried in (add-shape w b id lpn false d (h .world) (write-bytes id lpn d f) _ (former-view id lpn d w) ∙ h .shape);
+  world = add-live w b id lpn false d (h .world) (write-bytes id lpn d f) (write id lpn d) (write-told b id lpn d) _ (former-view id lpn d w);
 }
 former-holds g b p e q (cut-off id lpn d w lets f) h =
     unfold formerEvent formerArray in
-    rw (quiet-told (write id lpn d) b _ _ _ (unfold entering in refl), ← h .shape) (write-cut w b id lpn d lets (h .world) f _ (former-view id lpn d w))
+    rw (quiet-told (write id lpn d) b _ _ _ (unfold entering in refl), ← h .shape) (add-cut w b id lpn false d lets (h .world) (write-bytes id lpn d f) _ (former-view id lpn d w))
 
 former-run : (g : Geometry) (b : Book) (p : Phase) (es : List Event) (q : Phase) → FormerRun g p es q → Holds g b p → Holds g (story b es) q
 unfolding story

@@ -41,7 +41,7 @@ use Rattle.sequence.specs.Append.{Appends, appends, appended, next-is-da
 -- ---- the open changes while the array grows
 -- every place keeps its writes
 pub changing-grow : (xs ys map map′ hold : List ℕ) (ps : List Place) (b b′ : Book) → b′ .changes ≡ b .changes → WholeSame xs ys
-    → ((i : ℕ) → i < 8 → placeAt ps i .id ≢ 0 → (x : ℕ) (d : List ℕ) → Laid xs map (placeAt ps i .id) x d → occ x map′ ≡ 0) → Changing xs map hold ps b → Changing ys map′ hold ps b′
+    → ((i : ℕ) → i < 8 → placeAt ps i .id ≢ 0 → (x : ℕ) → Laid xs map (placeAt ps i .id) x → occ x map′ ≡ 0) → Changing xs map hold ps b → Changing ys map′ hold ps b′
 changing-grow xs ys map map′ hold ps b b′ e same o c = record {
   eight = c .eight;
   writes = λ i l z. rw e (writes-keep xs ys map map′ hold hold i (placeAt ps i) _ same (o i l z) refl (c .writes i l z));
@@ -50,8 +50,8 @@ changing-grow xs ys map map′ hold ps b b′ e same o c = record {
 }
 
 -- a page of a change is not the erased page that is mapped next
-pub laid-still : (xs map : List ℕ) (lpn k : ℕ) → blankAt xs k ≡ true → (id x : ℕ) (d : List ℕ) → Laid xs map id x d → occ x (set map lpn k) ≡ 0
-laid-still xs map lpn k blank id x d l =
+pub laid-still : (xs map : List ℕ) (lpn k : ℕ) → blankAt xs k ≡ true → (id x : ℕ) → Laid xs map id x → occ x (set map lpn k) ≡ 0
+laid-still xs map lpn k blank id x l =
     let n : x ≢ k = λ q. clash blank (whole-not-blank xs k (subst (λ (j : ℕ). wholeAt xs j ≡ true) q (l .whole))) in
     omega (arith, l .free, occ-set x map lpn k, occ-no x k n)
 

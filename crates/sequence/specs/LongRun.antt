@@ -35,7 +35,7 @@ use Rattle.sequence.specs.Places.{placeAt, place-found}
 use Rattle.sequence.specs.Live.{Live, live-frame}
 use Rattle.sequence.specs.View.{after}
 use Rattle.sequence.specs.Append.{Appends}
-use Rattle.sequence.specs.Write.{page-appends, write-bytes, view-shape, view-live}
+use Rattle.sequence.specs.Write.{page-appends, write-told, write-bytes, add-shape, add-live}
 use Rattle.sequence.specs.Start.{format-zones-ok, formatted-idle, fresh-erased, some-formatted}
 use Rattle.sequence.specs.Theorem.{LiveAt, step-holds, start-holds}
 use Rattle.sequence.specs.Former.{formerWrite, FormerStep, step, wrote, FormerRun, end, then, former-view, former-done}
@@ -110,7 +110,7 @@ module _ (w : World) (b : Book) (n : ℕ) (f : Filled w b n) where
 
   -- ---- one page more
   module _ (few : n < 64) where
-    goes : formerWrite 1 0 zeros w ≡ writePlan i p 0 zeros w
+    goes : formerWrite 1 0 zeros w ≡ writePlan i p 0 false zeros w
     goes = former-done 1 0 zeros w passes refl in-range open-at (rw (place-is, f .count) few) (rw (roomy (omega arith)) (either (eqb (p .count) 0)))
       where
         either : (t : Bool) → (not t && false) ≡ false
@@ -130,8 +130,8 @@ module _ (w : World) (b : Book) (n : ℕ) (f : Filled w b n) where
 
     more-live : LiveAt flash more told
     more-live = record {
-      shape = unfold carried in (view-shape w b 1 0 zeros (f .live .world) fits-zeros _ (former-view 1 0 zeros w) ∙ f .live .shape);
-      world = view-live w b 1 0 zeros (f .live .world) fits-zeros _ (former-view 1 0 zeros w);
+      shape = unfold carried in (add-shape w b 1 0 false zeros (f .live .world) (write-bytes 1 0 zeros fits-zeros) _ (former-view 1 0 zeros w) ∙ f .live .shape);
+      world = add-live w b 1 0 false zeros (f .live .world) (write-bytes 1 0 zeros fits-zeros) (write 1 0 zeros) (write-told b 1 0 zeros) _ (former-view 1 0 zeros w);
     }
 
     -- where a page was held, it is programmed
@@ -139,7 +139,7 @@ module _ (w : World) (b : Book) (n : ℕ) (f : Filled w b n) where
     appends-one some =
         let h = f .live .world in
         subst (Appends w b) (sym goes)
-        (page-appends w b h 1 0 zeros (f .idle) refl (write-bytes w b 1 0 zeros h fits-zeros) (let e = ap (λ (k : Geometry). k .logical) (f .live .shape) in omega arith) i
+        (page-appends w b h 1 0 false zeros (f .idle) refl (write-bytes 1 0 zeros fits-zeros) (let e = ap (λ (k : Geometry). k .logical) (f .live .shape) in omega arith) i
         (place-found (w .state .places) 1 (h .changing .eight) open-at) (rw (place-is, f .count) few) (rw (place-is, f .count) some) (roomy (omega arith)))
 
     more-clean : Is n 0 → 96 ≤ cleanPages more + (suc n - 1)
@@ -150,7 +150,7 @@ module _ (w : World) (b : Book) (n : ℕ) (f : Filled w b n) where
     filled-more = record {
       live = more-live;
       idle = unfold carried writePlan withPlace in rw goes (f .idle);
-      place = written (f .place) (nextPage w) 0;
+      place = written (f .place) (nextPage w) 0 false;
       places = unfold carried writePlan withPlace in rw (goes, at-0, f .places) refl;
       named = unfold written in f .named;
       count = unfold written in (let c = f .count in omega arith);

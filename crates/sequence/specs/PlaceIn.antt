@@ -70,10 +70,10 @@ passes-first : (p : ℕ → Bool) (n : ℕ) (l : List ℕ) → n ≤ length l �
 passes-first p n l h k = all-by-at p 0 (take n l) (λ i m. let q : i < n = omega (arith, length-take-le n l h) in rw (getD-first n l i q) (k i q))
 
 -- the written place is in range
-pub written-in : (g : Geometry) (p : Place) (k lpn : ℕ) → p .count < 64 → badId (p .id) ≡ false → length (p .lpns) ≡ 64 → length (p .ppns) ≡ 64 → lpn < g .logical
-    → (p .count ≢ 0 → dataPage g k ≡ true) → PlaceIn g p → PlaceIn g (written p k lpn)
+pub written-in : (g : Geometry) (p : Place) (k lpn : ℕ) (drop : Bool) → p .count < 64 → badId (p .id) ≡ false → length (p .lpns) ≡ 64 → length (p .ppns) ≡ 64 → lpn < g .logical
+    → (p .count ≢ 0 → dataPage g k ≡ true) → PlaceIn g p → PlaceIn g (written p k lpn drop)
 unfolding written
-written-in g p k lpn room name ll lp low page h = record {
+written-in g p k lpn drop room name ll lp low page h = record {
   few = omega arith;
   name = inl name;
   lpns = passes-first (λ (l : ℕ). ltb l (g .logical)) (p .count + 1) (set (p .lpns) (p .count) lpn) (omega (arith, length-set (p .lpns) (p .count) lpn)) (λ i l. lpn-at i l (eqb-cases i (p .count)));

@@ -10,10 +10,10 @@ use Rattle.model.specs.World.{World, Op, none, Plan, refuse, applyOp}
 use Rattle.model.specs.Frame.{lentOk}
 use Rattle.model.specs.Checkpoint.{Found, nothing, at, newest, loadOk}
 use Rattle.model.specs.Recovery.{pagesGood}
-use Rattle.model.specs.Transactions.{unless, planBegin, planWrite, planLone, planCommit, planAbort, writePlan, lonePlan, markPlan, forgetPlan}
+use Rattle.model.specs.Transactions.{unless, planBegin, addPlan, planWrite, planDrop, planLone, planCommit, planAbort, writePlan, lonePlan, markPlan, forgetPlan}
 use Rattle.model.specs.Strides.{planCheckpoint, planReclaim, planFormat, mapStride, zoneStride, pageStride, otherStride, firstStride, checkpointStride, copyStride, freeStride, reclaimStride, formatMore, formatLast, formatStride}
 use Rattle.model.specs.Recover.{planRecover, recoverFrom, recoverPlan, entriesAt, zonesAt, scannedAt}
-use Rattle.model.specs.Commands.{Call, format, recover, begin, write, lone, commit, abort, read, checkpoint, reclaim, plan, carried, exec}
+use Rattle.model.specs.Commands.{Call, format, recover, begin, write, dropPage, lone, commit, abort, read, checkpoint, reclaim, plan, carried, exec}
 use Rattle.model.specs.declared.Geometry.{Geometry}
 use Rattle.model.specs.declared.State.{State}
 use Rattle.model.specs.declared.Work.{Work}
@@ -47,8 +47,12 @@ module _ (w : World) where
   keeps-begin id = search (keeps-unless, keeps-cond, keeps-refuse, keeps-done) depth 9
 
   keeps-write : (id lpn : ℕ) (d : List ℕ) → Keeps w (planWrite id lpn d w)
-  unfolding planWrite writePlan
+  unfolding planWrite addPlan writePlan
   keeps-write id lpn d = search (keeps-unless, keeps-cond, keeps-refuse, keeps-done) depth 9
+
+  keeps-drop : (id lpn : ℕ) → Keeps w (planDrop id lpn w)
+  unfolding planDrop addPlan writePlan
+  keeps-drop id lpn = search (keeps-unless, keeps-cond, keeps-refuse, keeps-done) depth 9
 
   keeps-lone : (lpn : ℕ) (d : List ℕ) → Keeps w (planLone lpn d w)
   unfolding planLone lonePlan
@@ -105,6 +109,7 @@ module _ (w : World) where
   keeps-plan (recover g) = keeps-recover g
   keeps-plan (begin id) = keeps-begin id
   keeps-plan (write id lpn d) = keeps-write id lpn d
+  keeps-plan (dropPage id lpn) = keeps-drop id lpn
   keeps-plan (lone lpn d) = keeps-lone lpn d
   keeps-plan (commit id) = keeps-commit id
   keeps-plan (abort id) = keeps-abort id

@@ -6,7 +6,7 @@ use mathlib.Core.List.{List}
 use lib.Dec.{eqb}
 use Rattle.model.specs.World.{World, Op, Plan, refuse}
 use Rattle.model.specs.Checkpoint.{Found, nothing, at}
-use Rattle.model.specs.Transactions.{unless, withPlace, withVersion, planBegin, planWrite, planLone, planCommit, planAbort, writePlan, lonePlan, markPlan, forgetPlan}
+use Rattle.model.specs.Transactions.{unless, withPlace, withVersion, planBegin, addPlan, planWrite, planDrop, planLone, planCommit, planAbort, writePlan, lonePlan, markPlan, forgetPlan}
 use Rattle.model.specs.Strides.{withWork, withZones, withNumber, planCheckpoint, planReclaim, mapStride, zoneStride, pageStride, otherStride, firstStride, checkpointStride, copyStride, freeStride, reclaimStride}
 use Rattle.model.specs.declared.State.{State}
 use Rattle.model.specs.declared.Work.{Work}
@@ -35,8 +35,12 @@ module _ (w : World) where
   same-begin id = search (same-unless, same-cond, same-refuse, same-done) depth 9
 
   pub same-write : (id lpn : ℕ) (d : List ℕ) → SameShape w (planWrite id lpn d w)
-  unfolding planWrite writePlan withPlace
+  unfolding planWrite addPlan writePlan withPlace
   same-write id lpn d = search (same-unless, same-cond, same-refuse, same-done) depth 9
+
+  pub same-drop : (id lpn : ℕ) → SameShape w (planDrop id lpn w)
+  unfolding planDrop addPlan writePlan withPlace
+  same-drop id lpn = search (same-unless, same-cond, same-refuse, same-done) depth 9
 
   pub same-lone : (lpn : ℕ) (d : List ℕ) → SameShape w (planLone lpn d w)
   unfolding planLone lonePlan withVersion

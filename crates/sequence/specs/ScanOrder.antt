@@ -2,7 +2,7 @@
 -- and no call changes the order of the others.
 use mathlib.Core.Path.{_≡_, refl, sym, ap, _∙_, subst}
 use mathlib.Core.Logic.{inl, inr}
-use mathlib.Core.Bool.{true, false, false≢true}
+use mathlib.Core.Bool.{Bool, true, false, false≢true}
 use Prim.Native.Nat.{ℕ}
 use native.Mathlib.Omega.{arith}
 use mathlib.Core.List.{List, [], _∷_, _++_, append-nil}
@@ -13,15 +13,15 @@ use Rattle.model.specs.Page.{spareOf}
 use Rattle.model.specs.Geometry.{dataPage}
 use Rattle.model.specs.Zones.{Entry, entryOf, scanOf}
 use Rattle.model.specs.World.{World, Op, none, program, erase, programs, Plan, applyOp}
-use Rattle.model.specs.Transactions.{placeOf, nextPage, heldOp, withPlace, writePlan, lonePlan, forgetPlan}
+use Rattle.model.specs.Transactions.{placeOf, nextPage, heldOp, withPlace, writePlan, gone, lonePlan, forgetPlan}
 use Rattle.model.specs.Strides.{planCheckpoint, freeStride}
-use Rattle.model.specs.Commands.{Call, format, recover, begin, write, lone, commit, abort, read, checkpoint, reclaim, plan, carried, exec}
+use Rattle.model.specs.Commands.{Call, format, recover, begin, write, dropPage, lone, commit, abort, read, checkpoint, reclaim, plan, carried, exec}
 use Rattle.model.specs.Book.{Book}
 use Rattle.model.specs.Sequence.{fits, Allowed}
 use Rattle.model.specs.declared.Geometry.{Geometry}
 use Rattle.model.specs.declared.Place.{Place}
 use Rattle.arrays.specs.Tests.{Is, eqb-cases, and-right}
-use Rattle.arrays.specs.Bytelist.{bytes-true}
+use Rattle.arrays.specs.Bytelist.{Bytes, bytes-true}
 use Rattle.arrays.specs.Ranges.{page-least}
 use Rattle.front.specs.ZoneBack.{plain}
 use Rattle.front.specs.Blocks.{InFront}
@@ -40,7 +40,7 @@ use Rattle.sequence.specs.Append.{Appends}
 use Rattle.sequence.specs.Begin.{Begins, begin-view}
 use Rattle.sequence.specs.Abort.{Aborts, abort-view}
 use Rattle.sequence.specs.Lone.{Lones, lone-view, lone-appends}
-use Rattle.sequence.specs.Write.{WritesTo, write-view, page-appends}
+use Rattle.sequence.specs.Write.{WritesTo, write-view, drop-view, gone-small, page-appends}
 use Rattle.sequence.specs.Commit.{Commits, forgets, marks, commit-view, mark-appends}
 use Rattle.sequence.specs.Reclaiming.{Reclaims, copies, frees, reclaim-view, copy-appends, free-scan}
 use Rattle.sequence.specs.Checkpointing.{stride-scan}
@@ -135,10 +135,9 @@ module _ (w : World) (b : Book) (h : Live w b) where
       go p (marks idle found many more short) =
           order-append w b p h (mark-appends w b h id (placeOf (w .state .places) id) idle (place-found (w .state .places) id (h .changing .eight) found) many more short)
 
-  write-orders : (id lpn : ℕ) (d : List ℕ) → fits (write id lpn d) ≡ true → Orders (write id lpn d)
-  unfolding plan fits
-  write-orders id lpn d f = view-orders (write id lpn d) (WritesTo w id lpn d) (write-view id lpn d w) (λ p v.
-      subst (λ (q : Plan). InOrder w (q .op) (after q w)) (sym (v .is)) (go v (eqb-cases (placeAt (w .state .places) (placeOf (w .state .places) id) .count) 0)))
+  add-orders : (c : Call) (id lpn : ℕ) (drop : Bool) (d : List ℕ) → Bytes d → View w (WritesTo w id lpn drop d) (plan c w) → Orders c
+  add-orders c id lpn drop d small v = view-orders c (WritesTo w id lpn drop d) v (λ p u.
+      subst (λ (q : Plan). InOrder w (q .op) (after q w)) (sym (u .is)) (go u (eqb-cases (placeAt (w .state .places) (placeOf (w .state .places) id) .count) 0)))
     where
       i : ℕ
       i = placeOf (w .state .places) id
@@ -146,15 +145,23 @@ module _ (w : World) (b : Book) (h : Live w b) where
       p : Place
       p = placeAt (w .state .places) i
 
-      first : writePlan i p lpn d w .op ≡ none → scanned (after (writePlan i p lpn d w) w) ≡ scanned w
+      first : writePlan i p lpn drop d w .op ≡ none → scanned (after (writePlan i p lpn drop d w) w) ≡ scanned w
       first n = unfold carried writePlan withPlace applyOp in ap (λ (o : Op). scanOf (applyOp (w .state .geometry .pages) o (w .array)) (w .state .geometry .pages) (w .state .zones)) n
 
-      go : {q : Plan} → WritesTo w id lpn d q → Is (p .count) 0 → InOrder w (writePlan i p lpn d w .op) (after (writePlan i p lpn d w) w)
-      go v (inl z) =
-          let n : writePlan i p lpn d w .op ≡ none = unfold writePlan heldOp in rw (z .1) in
-          order-none w (after (writePlan i p lpn d w) w) (writePlan i p lpn d w .op) (ap programs n) (first n)
-      go v (inr z) = order-append w b (writePlan i p lpn d w) h (page-appends w b h id lpn d (v .idle) (v .long) (bytes-true d (and-right (ltb lpn 65536) (bytes d) (and-right (ltb id 4294967296) _ f))) (v .low) i
-          (place-found (w .state .places) id (h .changing .eight) (v .begun)) (v .room) (z .0) (v .clean (z .0)))
+      go : {q : Plan} → WritesTo w id lpn drop d q → Is (p .count) 0 → InOrder w (writePlan i p lpn drop d w .op) (after (writePlan i p lpn drop d w) w)
+      go u (inl z) =
+          let n : writePlan i p lpn drop d w .op ≡ none = unfold writePlan heldOp in rw (z .1) in
+          order-none w (after (writePlan i p lpn drop d w) w) (writePlan i p lpn drop d w .op) (ap programs n) (first n)
+      go u (inr z) = order-append w b (writePlan i p lpn drop d w) h (page-appends w b h id lpn drop d (u .idle) (u .long) small (u .low) i
+          (place-found (w .state .places) id (h .changing .eight) (u .begun)) (u .room) (z .0) (u .clean (z .0)))
+
+  write-orders : (id lpn : ℕ) (d : List ℕ) → fits (write id lpn d) ≡ true → Orders (write id lpn d)
+  unfolding plan fits
+  write-orders id lpn d f = add-orders (write id lpn d) id lpn false d (bytes-true d (and-right (ltb lpn 65536) (bytes d) (and-right (ltb id 4294967296) _ f))) (write-view id lpn d w)
+
+  drop-orders : (id lpn : ℕ) → Orders (dropPage id lpn)
+  unfolding plan
+  drop-orders id lpn = add-orders (dropPage id lpn) id lpn true gone gone-small (drop-view id lpn w)
 
   begin-orders : (id : ℕ) → Orders (begin id)
   unfolding plan
@@ -184,6 +191,7 @@ module _ (w : World) (b : Book) (h : Live w b) where
   call-orders (recover k) f a = order-none w (exec (recover k) w .world) (plan (recover k) w .op) (ap programs (recover-none k w)) (rw a (recover-scan w b h))
   call-orders (begin id) f a = begin-orders id
   call-orders (write id lpn d) f a = write-orders id lpn d f
+  call-orders (dropPage id lpn) f a = drop-orders id lpn
   call-orders (lone lpn d) f a = lone-orders lpn d f
   call-orders (commit id) f a = commit-orders id
   call-orders (abort id) f a = view-orders (abort id) (Aborts w id) (abort-view id w) (λ p v. subst (λ (q : Plan). InOrder w (q .op) (after q w)) (sym (v .is)) (forget-orders (placeOf (w .state .places) id)))

@@ -1,6 +1,6 @@
 -- A change of the array that spares the listed blocks and the mapped pages, in a front block or a checkpointed one: zones, scan, contents and
 -- open changes are as they were.
-use mathlib.Core.Path.{_≡_, _∙_, subst}
+use mathlib.Core.Path.{_≡_, sym, ap, _∙_, subst}
 use mathlib.Core.Logic.{_⊎_, inl, inr, _≢_}
 use mathlib.Core.Bool.{Bool, true, false}
 use Prim.Native.Nat.{ℕ, zero, suc, _+_, _-_, _*_, _≤_, _<_}
@@ -34,7 +34,7 @@ use Rattle.scanlog.specs.Open.{Open, Opens, openEntry, laid}
 use Rattle.scanlog.specs.Tidy.{Tidy, scanOf-same}
 use Rattle.scanlog.specs.Free.{Grown}
 use Rattle.sequence.specs.Maps.{MapGood}
-use Rattle.sequence.specs.Contents.{Contents, contents-keep}
+use Rattle.sequence.specs.Contents.{Contents, contentOf, contents-keep}
 use Rattle.sequence.specs.Places.{placeAt}
 use Rattle.sequence.specs.Writes.{Writes}
 use Rattle.sequence.specs.Sound.{Sound}
@@ -75,13 +75,14 @@ entries-right P [] fs h = h
 entries-right P (e ∷ es) fs h = entries-right P es fs (h .1)
 
 -- the pages of a change, by their number
-laid-entry : (P : Entry → Type 0) (id : ℕ) (lpns ppns : List ℕ) (n : ℕ) → Entries P (laid id lpns ppns n) → (j : ℕ) → j < n → P (openEntry id (getD ppns j 0) (getD lpns j 0))
+laid-entry : (P : Entry → Type 0) (id : ℕ) (lpns ppns : List ℕ) (drops : List Bool) (n : ℕ) → Entries P (laid id lpns ppns drops n) → (j : ℕ) → j < n
+    → P (openEntry id (getD ppns j 0) (getD lpns j 0) (getD drops j false))
 unfolding laid
-laid-entry P id lpns ppns zero h j l = absurd (omega arith)
-laid-entry P id lpns ppns (suc n) h j l = go (eqb-cases j n) (laid-entry P id lpns ppns n (entries-left P (laid id lpns ppns n) _ h) j)
+laid-entry P id lpns ppns drops zero h j l = absurd (omega arith)
+laid-entry P id lpns ppns drops (suc n) h j l = go (eqb-cases j n) (laid-entry P id lpns ppns drops n (entries-left P (laid id lpns ppns drops n) _ h) j)
   where
-    go : Is j n → (j < n → P (openEntry id (getD ppns j 0) (getD lpns j 0))) → P (openEntry id (getD ppns j 0) (getD lpns j 0))
-    go (inl q) ih = rw (q .0) (entries-right P (laid id lpns ppns n) _ h .0)
+    go : Is j n → (j < n → P (openEntry id (getD ppns j 0) (getD lpns j 0) (getD drops j false))) → P (openEntry id (getD ppns j 0) (getD lpns j 0) (getD drops j false))
+    go (inl q) ih = rw (q .0) (entries-right P (laid id lpns ppns drops n) _ h .0)
     go (inr q) ih = ih (omega (arith, q .0))
 
 -- ---- the scanned pages are as they were
@@ -138,7 +139,7 @@ module _ (g : Geometry) (xs ys : List ℕ) (z : Zones) (map : List ℕ) (s : Spa
   spared-page p o j l =
       let k : Entries (Kept xs ys) (scanIn xs (g .pages) (unavailableOf z ++ availableOf z))
       = scan-kept xs ys (g .pages) (unavailableOf z ++ availableOf z) (each-append (λ (c : ℕ). SamePages xs ys (c * g .pages) (g .pages)) (unavailableOf z) (availableOf z) (s .unavailable) (s .available)) in
-      laid-entry (Kept xs ys) (p .id) (p .lpns) (p .ppns) (p .count - 1) (subst (Entries (Kept xs ys)) o (entries-those (Kept xs ys) (λ (e : Entry). eqb (e .id) (p .id)) _ k)) j (omega arith)
+      laid-entry (Kept xs ys) (p .id) (p .lpns) (p .ppns) (p .drops) (p .count - 1) (subst (Entries (Kept xs ys)) o (entries-those (Kept xs ys) (λ (e : Entry). eqb (e .id) (p .id)) _ k)) j (omega arith)
 
   spared-writes : (hold : List ℕ) (i : ℕ) (p : Place) (ws : List Write) → Open p (scanOf xs (g .pages) z) → Writes xs map hold i p ws → Writes ys map hold i p ws
   spared-writes hold i p ws o w = record {
@@ -146,11 +147,13 @@ module _ (g : Geometry) (xs ys : List ℕ) (z : Zones) (map : List ℕ) (s : Spa
     small = w .small;
     lpns = w .lpns;
     ppns = w .ppns;
+    drops = w .drops;
     names = w .names;
     laid = λ j l.
         let e = spared-page p o j l in
         let a = w .laid j l in
-        record { whole = whole-same xs ys _ _ e ∙ a .whole; bytes = data-same xs ys _ _ e ∙ a .bytes; owner = rw e (a .owner); free = a .free };
+        record { real = a .real; whole = whole-same xs ys _ _ e ∙ a .whole; owner = rw e (a .owner); free = a .free };
+    stored = λ j l. w .stored j l ∙ ap (contentOf (getD (p .drops) j false)) (sym (data-same xs ys _ _ (spared-page p o j l)));
     apart = w .apart;
     held = w .held;
     bytes = w .bytes;

@@ -9,11 +9,11 @@ use lib.Dec.{eqb}
 use Rattle.model.specs.World.{World, Plan, refuse}
 use Rattle.model.specs.Frame.{lentOk}
 use Rattle.model.specs.Recover.{planRecover, recoverFrom}
-use Rattle.model.specs.Transactions.{planBegin, planWrite, planLone, planCommit, planAbort}
+use Rattle.model.specs.Transactions.{planBegin, planWrite, planDrop, planLone, planCommit, planAbort}
 use Rattle.model.specs.Strides.{planCheckpoint, planReclaim}
 use Rattle.model.specs.Checkpoint.{at, newest}
 use Rattle.model.specs.Geometry.{mapPages}
-use Rattle.model.specs.Commands.{Call, format, recover, begin, write, lone, commit, abort, read, checkpoint, reclaim, plan, carried, exec, Outcome}
+use Rattle.model.specs.Commands.{Call, format, recover, begin, write, dropPage, lone, commit, abort, read, checkpoint, reclaim, plan, carried, exec, Outcome}
 use Rattle.model.specs.Book.{Book, Event, called, blank, tell, story, entering, changing}
 use Rattle.model.specs.Sequence.{fits, Phase, live, dark, arrayOf, Allowed, cutEvent, cutArray, Step, call, cut, between, back, failed, lost, again, Run, stop, next, Formatted}
 use Rattle.model.specs.Demand3.{Recovers, LiveReads, Kept, Demand3, FormatReads}
@@ -28,15 +28,15 @@ use Rattle.sequence.specs.Refused.{refused-same, read-same, recover-none
 use Rattle.sequence.specs.Sound.{Stored, handed, recovered, sound-recovers}
 use Rattle.sequence.specs.Live.{Live, live-reads, closedBook, sound-live}
 use Rattle.sequence.specs.View.{told-refused, refused-live}
-use Rattle.sequence.specs.SameShape.{SameShape, same-begin, same-write, same-lone, same-commit, same-abort, same-checkpoint, same-reclaim}
+use Rattle.sequence.specs.SameShape.{SameShape, same-begin, same-write, same-drop, same-lone, same-commit, same-abort, same-checkpoint, same-reclaim}
 use Rattle.sequence.specs.Begin.{begin-keeps}
 use Rattle.sequence.specs.Abort.{abort-keeps}
 use Rattle.sequence.specs.Lone.{lone-keeps}
-use Rattle.sequence.specs.Write.{write-keeps}
+use Rattle.sequence.specs.Write.{write-keeps, drop-keeps}
 use Rattle.sequence.specs.Commit.{commit-keeps}
 use Rattle.sequence.specs.Checkpointing.{checkpoint-live}
 use Rattle.sequence.specs.Reclaiming.{reclaim-keeps}
-use Rattle.sequence.specs.Cuts.{CutKeeps, live-stored, cut-none, cut-refused, begin-cuts, abort-cuts, lone-cuts, commit-cuts, write-cuts, checkpoint-cuts-kept, reclaim-cuts, read-cuts}
+use Rattle.sequence.specs.Cuts.{CutKeeps, live-stored, cut-none, cut-refused, begin-cuts, abort-cuts, lone-cuts, commit-cuts, write-cuts, drop-cuts, checkpoint-cuts-kept, reclaim-cuts, read-cuts}
 use Rattle.sequence.specs.Start.{formatted-live, format-zones-ok}
 
 -- ---- the invariant
@@ -126,6 +126,7 @@ kept-call g (format k) w b f a h = record { shape = rw (refused-same w (format k
 kept-call g (recover k) w b f a h = rw a (live-recover g w b h)
 kept-call g (begin id) w b f a h = record { shape = shape-after (begin id) w g (planBegin id w) (unfold plan in refl) (same-begin w id) (h .shape); world = begin-keeps w b id (h .world) f }
 kept-call g (write id lpn d) w b f a h = record { shape = shape-after (write id lpn d) w g (planWrite id lpn d w) (unfold plan in refl) (same-write w id lpn d) (h .shape); world = write-keeps w b id lpn d (h .world) f }
+kept-call g (dropPage id lpn) w b f a h = record { shape = shape-after (dropPage id lpn) w g (planDrop id lpn w) (unfold plan in refl) (same-drop w id lpn) (h .shape); world = drop-keeps w b id lpn (h .world) }
 kept-call g (lone lpn d) w b f a h = record { shape = shape-after (lone lpn d) w g (planLone lpn d w) (unfold plan in refl) (same-lone w lpn d) (h .shape); world = lone-keeps w b lpn d (h .world) f }
 kept-call g (commit id) w b f a h = record { shape = shape-after (commit id) w g (planCommit id w) (unfold plan in refl) (same-commit w id) (h .shape); world = commit-keeps w b id (h .world) }
 kept-call g (abort id) w b f a h = record { shape = shape-after (abort id) w g (planAbort id w) (unfold plan in refl) (same-abort w id) (h .shape); world = abort-keeps w b id (h .world) }
@@ -139,6 +140,7 @@ kept-cut g (format k) w b lets f a h = cut-refused (format k) w b lets (h .world
 kept-cut g (recover k) w b lets f a h = cut-none (recover k) w b lets (h .world) (recover-none k w)
 kept-cut g (begin id) w b lets f a h = begin-cuts w b id lets (h .world)
 kept-cut g (write id lpn d) w b lets f a h = write-cuts w b id lpn d lets (h .world) f
+kept-cut g (dropPage id lpn) w b lets f a h = drop-cuts w b id lpn lets (h .world)
 kept-cut g (lone lpn d) w b lets f a h = lone-cuts w b lpn d lets (h .world) f
 kept-cut g (commit id) w b lets f a h = commit-cuts w b id lets (h .world)
 kept-cut g (abort id) w b lets f a h = abort-cuts w b id lets (h .world)

@@ -12,9 +12,9 @@ use Rattle.model.specs.World.{World, Plan, refuse, applyOp}
 use Rattle.model.specs.Frame.{lentOk, frameOk, isIdle, gate}
 use Rattle.model.specs.Recovery.{pagesGood}
 use Rattle.model.specs.Recover.{entriesAt, zonesAt, scannedAt, planRecover, recoverFrom, recoverPlan, recoveredState}
-use Rattle.model.specs.Transactions.{unless, withPlace, withVersion, planBegin, planWrite, planLone, planCommit, planAbort, writePlan, lonePlan, markPlan, forgetPlan}
+use Rattle.model.specs.Transactions.{unless, withPlace, withVersion, planBegin, planWrite, planDrop, planLone, planCommit, planAbort, writePlan, lonePlan, markPlan, forgetPlan}
 use Rattle.model.specs.Strides.{isCheckpoint, isReclaim, withWork, withZones, withNumber, mappedIn, picked, lowestFrom, mapStride, zoneStride, pageStride, otherStride, copyStride, freeStride, reclaimStride, planCheckpoint, planReclaim}
-use Rattle.model.specs.Commands.{Call, format, recover, begin, write, lone, commit, abort, read, checkpoint, reclaim, plan, carried, exec}
+use Rattle.model.specs.Commands.{Call, format, recover, begin, write, dropPage, lone, commit, abort, read, checkpoint, reclaim, plan, carried, exec}
 use Rattle.model.specs.Book.{Book}
 use Rattle.model.specs.Sequence.{Allowed}
 use Rattle.model.specs.declared.Geometry.{Geometry}
@@ -30,7 +30,7 @@ use Rattle.sequence.specs.View.{View, no, yes, view-test, view-cond, vie
 use Rattle.sequence.specs.Begin.{begin-view}
 use Rattle.sequence.specs.Abort.{abort-view}
 use Rattle.sequence.specs.Lone.{lone-view}
-use Rattle.sequence.specs.Write.{write-view}
+use Rattle.sequence.specs.Write.{write-view, drop-view}
 use Rattle.sequence.specs.Commit.{Commits, forgets, marks, commit-view}
 use Rattle.sequence.specs.Reclaiming.{Reclaims, copies, frees, reclaim-view, copy-going}
 
@@ -41,6 +41,7 @@ another (format g) k = false
 another (recover g) k = false
 another (begin id) k = true
 another (write id lpn d) k = true
+another (dropPage id lpn) k = true
 another (lone lpn d) k = true
 another (commit id) k = true
 another (abort id) k = true
@@ -72,11 +73,12 @@ not-own false h = refl
 
 -- "busy: another multi-stride command is under way": the world is as it was
 pub busy-same : (c : Call) (w : World) → isIdle (w .state .work) ≡ false → another c (w .state .work) ≡ true → exec c w .world ≡ w
-unfolding plan planBegin planWrite planLone planCommit planAbort planCheckpoint planReclaim
+unfolding plan planBegin planWrite planDrop planLone planCommit planAbort planCheckpoint planReclaim
 busy-same (format g) w i a = absurd (false≢true a)
 busy-same (recover g) w i a = absurd (false≢true a)
 busy-same (begin id) w i a = refuse-same (begin id) w _ (busy-plan false w _ i refl)
 busy-same (write id lpn d) w i a = refuse-same (write id lpn d) w _ (busy-plan false w _ i refl)
+busy-same (dropPage id lpn) w i a = refuse-same (dropPage id lpn) w _ (busy-plan false w _ i refl)
 busy-same (lone lpn d) w i a = refuse-same (lone lpn d) w _ (busy-plan false w _ i refl)
 busy-same (commit id) w i a = refuse-same (commit id) w _ (busy-plan false w _ i refl)
 busy-same (abort id) w i a = refuse-same (abort id) w _ (busy-plan false w _ i refl)
@@ -185,6 +187,7 @@ goes-call g (format k) w b a h on = rw (refused-same w (format k) (unfold exec c
 goes-call g (recover k) w b a h on = goes-after (recover k) w on (recover-rests k w)
 goes-call g (begin id) w b a h on = goes-after (begin id) w on (view-map w _ Rests _ (λ p v. rw (v .is) (unfold withPlace in idle-rests (w .state .work) (v .idle))) (begin-view id w))
 goes-call g (write id lpn d) w b a h on = goes-after (write id lpn d) w on (view-map w _ Rests _ (λ p v. rw (v .is) (unfold writePlan withPlace in idle-rests (w .state .work) (v .idle))) (write-view id lpn d w))
+goes-call g (dropPage id lpn) w b a h on = goes-after (dropPage id lpn) w on (view-map w _ Rests _ (λ p v. rw (v .is) (unfold writePlan withPlace in idle-rests (w .state .work) (v .idle))) (drop-view id lpn w))
 goes-call g (lone lpn d) w b a h on = goes-after (lone lpn d) w on (view-map w _ Rests _ (λ p v. rw (v .is) (unfold lonePlan withVersion in idle-rests (w .state .work) (v .idle))) (lone-view lpn d w))
 goes-call g (commit id) w b a h on = goes-after (commit id) w on (view-map w _ Rests _ (commit-rests w id) (commit-view id w))
 goes-call g (abort id) w b a h on = goes-after (abort id) w on (view-map w _ Rests _ (λ p v. rw (v .is) (unfold forgetPlan withPlace in idle-rests (w .state .work) (v .idle))) (abort-view id w))

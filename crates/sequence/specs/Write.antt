@@ -1,11 +1,11 @@
 -- A write keeps the world live: the page held before is programmed without a mark, and the new one is held.
 use mathlib.Core.Path.{_≡_, refl, sym, ap, _∙_, subst}
 use mathlib.Core.Logic.{_⊎_, inl, inr, _≢_}
-use mathlib.Core.Bool.{true, false, not, cond, _&&_}
+use mathlib.Core.Bool.{Bool, true, false, not, cond, _&&_}
 use Prim.Native.Nat.{ℕ, _-_, _<_}
 use native.Mathlib.Omega.{arith}
 use mathlib.Core.List.{List, [], _∷_, _++_}
-use lib.ListN.{length, set, length-set}
+use lib.ListN.{length, set, length-set, length-replicate}
 use lib.Seq.{getD-set-same, getD-set-other}
 use lib.Dec.{eqb, leb, ltb}
 use borrow.Author.Tests.{eqb-true, ne-eqb, ltb-true, leb-false, not-false}
@@ -16,23 +16,25 @@ use Rattle.model.specs.Recovery.{ofId}
 use Rattle.model.specs.Answers.{refused}
 use Rattle.model.specs.World.{World, Plan, none, program, applyOp}
 use Rattle.model.specs.Frame.{noPlace, badId, isIdle}
-use Rattle.model.specs.Transactions.{placeOf, withPlace, cleanPages, nextPage, zoneShort, dataBytes, heldAt, holdWith, heldPage, longestChange, written, heldOp, writePlan, planWrite}
-use Rattle.model.specs.Commands.{write, plan, carried, exec}
+use Rattle.model.specs.Transactions.{placeOf, withPlace, cleanPages, nextPage, zoneShort, pageKind, changeBytes, heldAt, holdWith, heldPage, heldDrop, longestChange, written, heldOp, writePlan, addPlan, planWrite, gone, planDrop}
+use Rattle.model.specs.Commands.{Call, write, dropPage, plan, carried, exec}
 use Rattle.model.specs.Book.{Book, Write, called, entering, changing, tell, writesOf, addTo}
 use Rattle.model.specs.Sequence.{fits}
 use Rattle.model.specs.declared.Geometry.{Geometry}
 use Rattle.model.specs.declared.Place.{Place}
 use Rattle.model.specs.declared.Spare.{Spare}
 use Rattle.arrays.specs.Tests.{Is, eqb-cases, and-right}
-use Rattle.arrays.specs.Bytelist.{Bytes, bytes-true}
+use Rattle.arrays.specs.Bytelist.{Bytes, bytes-true, bytes-replicate}
 use Rattle.arrays.specs.Image.{SpareFits}
 use Rattle.front.specs.Newest.{SameFront}
 use Rattle.front.specs.Kept.{kept-away}
-use Rattle.scanlog.specs.Insert.{Insert}
+use Rattle.arrays.specs.Insert.{Insert}
 use Rattle.scanlog.specs.Log.{ofId-other}
+use Rattle.scanlog.specs.Good.{change-kind}
 use Rattle.scanlog.specs.Logged.{Logged, logged-page}
 use Rattle.scanlog.specs.Open.{Open, openEntry, opens-set, open-noMark, open-first, open-more}
 use Rattle.scanlog.specs.Tidy.{Tidy}
+use Rattle.sequence.specs.Contents.{contentOf}
 use Rattle.sequence.specs.Places.{placeAt, places-set, Found, place-found}
 use Rattle.sequence.specs.PlaceIn.{PlaceIn, place-in, in-place, good-name, first-passes, written-in}
 use Rattle.sequence.specs.OpenBook.{isOpen, add-own, add-other, add-open}
@@ -42,41 +44,63 @@ use Rattle.sequence.specs.Live.{Live, live-range, live-logged, scanned}
 use Rattle.sequence.specs.View.{View, no, yes, view-test, view-gate, idle-only, after, told-refused, Keeps, idle-calm}
 use Rattle.sequence.specs.Abort.{found-apart}
 use Rattle.sequence.specs.Lone.{room-clean}
-use Rattle.sequence.specs.Append.{Appends, appends, appended, next-is-data, next-blank, next-free, append-whole, append-data, append-spare, append-keeps, append-tidy, rescanned, append-in, append-turn, append-front, append-sound, append-contents}
+use Rattle.sequence.specs.Append.{Appends, appends, appended, next-is-data, next-mapped, next-blank, next-free, append-whole, append-data, append-spare, append-keeps, append-tidy, rescanned, append-in, append-turn, append-front, append-sound, append-contents}
 
 -- ---- the plan
-pub record WritesTo (w : World) (id lpn : ℕ) (d : List ℕ) (p : Plan) : Type 0 where
+pub record WritesTo (w : World) (id lpn : ℕ) (drop : Bool) (d : List ℕ) (p : Plan) : Type 0 where
   pub idle : isIdle (w .state .work) ≡ true
   pub long : length d ≡ 512
   pub low : lpn < w .state .geometry .logical
   pub begun : leb 8 (placeOf (w .state .places) id) ≡ false
   pub room : placeAt (w .state .places) (placeOf (w .state .places) id) .count < 64
   pub clean : placeAt (w .state .places) (placeOf (w .state .places) id) .count ≢ 0 → zoneShort w ≡ false
-  pub is : p ≡ writePlan (placeOf (w .state .places) id) (placeAt (w .state .places) (placeOf (w .state .places) id)) lpn d w
+  pub is : p ≡ writePlan (placeOf (w .state .places) id) (placeAt (w .state .places) (placeOf (w .state .places) id)) lpn drop d w
 
-pub write-view : (id lpn : ℕ) (d : List ℕ) (w : World) → View w (WritesTo w id lpn d) (planWrite id lpn d w)
-unfolding planWrite refused
-write-view id lpn d w =
-    let i = placeOf (w .state .places) id in
-    let p = placeAt (w .state .places) i in
-    view-gate w (WritesTo w id lpn d) false _ (λ f o.
-    view-test w (WritesTo w id lpn d) (not (eqb (length d) 512)) 11 _ refl (λ a.
-    view-test w (WritesTo w id lpn d) (leb (w .state .geometry .logical) lpn) 5 _ refl (λ c.
-    view-test w (WritesTo w id lpn d) (leb 8 i) 8 _ refl (λ e.
-    view-test w (WritesTo w id lpn d) (leb longestChange (p .count)) 10 _ refl (λ z.
-    view-test w (WritesTo w id lpn d) (not (eqb (p .count) 0) && zoneShort w) 12 _ refl (λ y.
+add-view : (id lpn : ℕ) (drop : Bool) (d : List ℕ) (w : World) → isIdle (w .state .work) ≡ true → length d ≡ 512 → View w (WritesTo w id lpn drop d) (addPlan id lpn drop d w)
+unfolding addPlan refused
+add-view id lpn drop d w i long =
+    let j = placeOf (w .state .places) id in
+    let p = placeAt (w .state .places) j in
+    view-test w (WritesTo w id lpn drop d) (leb (w .state .geometry .logical) lpn) 5 _ refl (λ c.
+    view-test w (WritesTo w id lpn drop d) (leb 8 j) 8 _ refl (λ e.
+    view-test w (WritesTo w id lpn drop d) (leb longestChange (p .count)) 10 _ refl (λ z.
+    view-test w (WritesTo w id lpn drop d) (not (eqb (p .count) 0) && zoneShort w) 12 _ refl (λ y.
     yes _ (record {
-      idle = idle-only (isIdle (w .state .work)) o;
-      long = eqb-true (length d) 512 (not-false (eqb (length d) 512) a);
+      idle = i;
+      long = long;
       low = leb-false (w .state .geometry .logical) lpn c;
       begun = e;
       room = (let h = leb-false longestChange (p .count) z in omega arith);
       clean = λ n. let t : not (eqb (p .count) 0) ≡ true = ap not (ne-eqb (p .count) 0 n) in rw t at y;
       is = refl;
-    })))))))
+    })))))
+
+pub write-view : (id lpn : ℕ) (d : List ℕ) (w : World) → View w (WritesTo w id lpn false d) (planWrite id lpn d w)
+unfolding planWrite refused
+write-view id lpn d w =
+    view-gate w (WritesTo w id lpn false d) false _ (λ f o.
+    view-test w (WritesTo w id lpn false d) (not (eqb (length d) 512)) 11 _ refl (λ a.
+    add-view id lpn false d w (idle-only (isIdle (w .state .work)) o) (eqb-true (length d) 512 (not-false (eqb (length d) 512) a))))
+
+-- the data of a drop
+gone-long : length gone ≡ 512
+unfolding gone
+gone-long = length-replicate {A = ℕ} 512 255
+
+pub gone-small : Bytes gone
+unfolding gone
+gone-small = bytes-replicate 512 255 (omega arith)
+
+pub drop-view : (id lpn : ℕ) (w : World) → View w (WritesTo w id lpn true gone) (planDrop id lpn w)
+unfolding planDrop
+drop-view id lpn w = view-gate w (WritesTo w id lpn true gone) false _ (λ f o. add-view id lpn true gone w (idle-only (isIdle (w .state .work)) o) gone-long)
+
+pub kind-small : (drop : Bool) → pageKind drop < 256
+kind-small true = omega arith
+kind-small false = omega arith
 
 -- ---- the world with the page held, and perhaps one programmed
-module _ (w : World) (b : Book) (h : Live w b) (id lpn : ℕ) (d : List ℕ) (idle : isIdle (w .state .work) ≡ true) (long : length d ≡ 512) (small : Bytes d)
+module _ (w : World) (b : Book) (h : Live w b) (id lpn : ℕ) (drop : Bool) (d : List ℕ) (idle : isIdle (w .state .work) ≡ true) (long : length d ≡ 512) (small : Bytes d)
     (low : lpn < w .state .geometry .logical) (i : ℕ) (f : Found (w .state .places) id i) (room : placeAt (w .state .places) i .count < 64) where
   -- geometry, places, the place of the change, and the write
   abbrev g : Geometry
@@ -89,7 +113,7 @@ module _ (w : World) (b : Book) (h : Live w b) (id lpn : ℕ) (d : List ℕ) (id
   p = placeAt ps i
 
   abbrev x : Write
-  x = record { lpn = lpn; bytes = d }
+  x = record { lpn = lpn; content = contentOf drop d }
 
   low8 : i < 8
   low8 = omega (arith, f .low, h .changing .eight)
@@ -110,11 +134,11 @@ module _ (w : World) (b : Book) (h : Live w b) (id lpn : ℕ) (d : List ℕ) (id
   -- ys is the array after it, es its scan
   module _ (ys : List ℕ) (es : List Entry) (k : ℕ) (sound : Sound g ys (h .saved) (w .map) (w .state .version) (b .pages)) (tidy : Tidy g ys (w .state .zones))
       (scan : scanOf ys (g .pages) (w .state .zones) ≡ es) (front : SameFront (w .array) ys (g .pages)) (same : WholeSame (w .array) ys)
-      (mine : Open (written p k lpn) es) (others : (j : ℕ) → j < length ps → j ≢ i → placeAt ps j .id ≢ 0 → ofId (placeAt ps j .id) es ≡ ofId (placeAt ps j .id) (scanned w))
-      (page : p .count ≢ 0 → dataPage g k ≡ true) (new : Writes ys (w .map) (holdWith (w .hold) i d) i (written p k lpn) (writesOf id (b .changes) ++ (x ∷ []))) where
+      (mine : Open (written p k lpn drop) es) (others : (j : ℕ) → j < length ps → j ≢ i → placeAt ps j .id ≢ 0 → ofId (placeAt ps j .id) es ≡ ofId (placeAt ps j .id) (scanned w))
+      (page : p .count ≢ 0 → dataPage g k ≡ true) (new : Writes ys (w .map) (holdWith (w .hold) i d) i (written p k lpn drop) (writesOf id (b .changes) ++ (x ∷ []))) where
     -- the place, the world and the book after it
     abbrev q : Place
-    q = written p k lpn
+    q = written p k lpn drop
 
     abbrev then : World
     then = record { array = ys; map = w .map; hold = holdWith (w .hold) i d; state = withPlace (w .state) i q }
@@ -146,7 +170,7 @@ module _ (w : World) (b : Book) (h : Live w b) (id lpn : ℕ) (d : List ℕ) (id
     writes-at j l z (inr e) =
         let n : placeAt ps j .id ≢ 0 = rw (at-other j (e .0)) at z in
         rw (at-other j (e .0), add-other id x (placeAt ps j .id) (b .changes) (apart j l (e .0)))
-        (writes-keep (w .array) ys (w .map) (w .map) (w .hold) (holdWith (w .hold) i d) j (placeAt ps j) _ same (λ y c a. a .free) (hold-other (w .hold) i d (h .hold) low8 long j (e .0)) (h .changing .writes j l n))
+        (writes-keep (w .array) ys (w .map) (w .map) (w .hold) (holdWith (w .hold) i d) j (placeAt ps j) _ same (λ y a. a .free) (hold-other (w .hold) i d (h .hold) low8 long j (e .0)) (h .changing .writes j l n))
 
     opened-at : (j : ℕ) → j < 8 → placeAt (set ps i q) j .id ≢ 0 → Is j i → isOpen (placeAt (set ps i q) j .id) (told .changes) ≡ true
     opened-at j l z (inl e) = rw (e .0, at-own, q-id, add-open id x id (b .changes)) open-id
@@ -171,7 +195,7 @@ module _ (w : World) (b : Book) (h : Live w b) (id lpn : ℕ) (d : List ℕ) (id
       grown = h .grown;
       tidy = tidy;
       hold = hold-long (w .hold) i d (h .hold) low8 long;
-      places = places-set g ps i q (h .places) (in-place g q (written-in g p k lpn room named (own .lpns) (own .ppns) low page (place-in g p (h .places .ok i (f .low)))))
+      places = places-set g ps i q (h .places) (in-place g q (written-in g p k lpn drop room named (own .lpns) (own .ppns) low page (place-in g p (h .places .ok i (f .low)))))
           (λ z j l n. rw q-id (found-apart w b id i h f j l n));
       opens = rw scan (opens-set ps (scanned w) es i q (h .opens) (λ z. mine) others);
       changing = record {
@@ -183,12 +207,12 @@ module _ (w : World) (b : Book) (h : Live w b) (id lpn : ℕ) (d : List ℕ) (id
     }
 
   -- the first write: nothing is programmed
-  first-live : (k : ℕ) → p .count ≡ 0 → Live (record { array = w .array; map = w .map; hold = holdWith (w .hold) i d; state = withPlace (w .state) i (written p k lpn) })
+  first-live : (k : ℕ) → p .count ≡ 0 → Live (record { array = w .array; map = w .map; hold = holdWith (w .hold) i d; state = withPlace (w .state) i (written p k lpn drop) })
       (record { pages = b .pages; changes = addTo id x (b .changes) })
   first-live k z = held-live (w .array) (scanned w) k (h .sound) (h .tidy) refl (λ j l. refl) (λ j l. refl)
-      (open-first p (scanned w) (h .opens i (f .low) some) k lpn z) (λ j l n m. refl) (λ n. absurd (n z))
-      (writes-more (w .array) (w .array) (w .map) (w .hold) (holdWith (w .hold) i d) i p (writesOf id (b .changes)) k lpn d own (λ j l. refl) room
-      (hold-own (w .hold) i d (h .hold) low8 long) small (λ n. absurd (n z)) (λ n. absurd (n z)))
+      (open-first p (scanned w) (h .opens i (f .low) some) k lpn drop z) (λ j l n m. refl) (λ n. absurd (n z))
+      (writes-more (w .array) (w .array) (w .map) (w .hold) (holdWith (w .hold) i d) i p (writesOf id (b .changes)) k lpn drop d own (λ j l. refl) room
+      (hold-own (w .hold) i d (h .hold) low8 long) small (λ n. absurd (n z)) (λ n. absurd (n z)) (λ n. absurd (n z)))
 
   -- a later one: the page held before is programmed
   module _ (many : p .count ≢ 0) (short : zoneShort w ≡ false) where
@@ -203,10 +227,10 @@ module _ (w : World) (b : Book) (h : Live w b) (id lpn : ℕ) (d : List ℕ) (id
 
     -- the spare area of the page held before
     abbrev pageSpare : Spare
-    pageSpare = record { lpn = heldPage p; cnt = 0; id = p .id; ver = 0; kind = 0; reserved = 0 }
+    pageSpare = record { lpn = heldPage p; cnt = 0; id = p .id; ver = 0; kind = pageKind (heldDrop p); reserved = 0 }
 
     page-fits : SpareFits pageSpare
-    page-fits = record { lpn = omega (arith, held-low, live-range w b h .logical-most); cnt = omega arith; id = own .small; ver = omega arith; kind = omega arith; reserved = omega arith }
+    page-fits = record { lpn = omega (arith, held-low, live-range w b h .logical-most); cnt = omega arith; id = own .small; ver = omega arith; kind = kind-small (heldDrop p); reserved = omega arith }
 
     -- its data
     abbrev pageData : List ℕ
@@ -234,19 +258,19 @@ module _ (w : World) (b : Book) (h : Live w b) (id lpn : ℕ) (d : List ℕ) (id
     abbrev es : List Entry
     es = rescanned w b h clean pageData pageSpare data-long data-small page-fits
 
-    put-in : Insert (openEntry (p .id) k (heldPage p)) (scanned w) es
+    put-in : Insert (openEntry (p .id) k (heldPage p) (heldDrop p)) (scanned w) es
     unfolding entryOf
     put-in = append-in w b h clean pageData pageSpare data-long data-small page-fits
 
-    in-turn : ofId (p .id) es ≡ ofId (p .id) (scanned w) ++ (openEntry (p .id) k (heldPage p) ∷ [])
+    in-turn : ofId (p .id) es ≡ ofId (p .id) (scanned w) ++ (openEntry (p .id) k (heldPage p) (heldDrop p) ∷ [])
     unfolding entryOf
     in-turn = append-turn w b h clean pageData pageSpare data-long data-small page-fits
 
     logged : Logged (g .logical) (h .saved .version) (h .saved .map) es (w .map) (w .state .version)
     logged = logged-page (g .logical) (h .saved .version) (h .saved .map) (w .map) (w .state .version) (live-logged w b h) _ put-in
-        (record { kind = refl; reserved = refl; lpn = held-low; id = held-name; ver = λ q. absurd (omega (arith, q)) }) some refl refl (open-noMark p (scanned w) (h .opens i (f .low) some))
+        (record { kind = change-kind (heldDrop p); reserved = refl; lpn = held-low; id = held-name; ver = λ q. absurd (omega (arith, q)) }) some refl refl (open-noMark p (scanned w) (h .opens i (f .low) some))
 
-    more-live : Live (record { array = ys; map = w .map; hold = holdWith (w .hold) i d; state = withPlace (w .state) i (written p k lpn) })
+    more-live : Live (record { array = ys; map = w .map; hold = holdWith (w .hold) i d; state = withPlace (w .state) i (written p k lpn drop) })
         (record { pages = b .pages; changes = addTo id x (b .changes) })
     more-live = held-live ys es k
         (append-sound w b h clean pageData pageSpare data-long data-small page-fits (w .map) (w .state .version) (b .pages) logged (h .sound .good) (h .sound .wide)
@@ -255,60 +279,78 @@ module _ (w : World) (b : Book) (h : Live w b) (id lpn : ℕ) (d : List ℕ) (id
         refl
         (append-front w b h clean pageData pageSpare data-long data-small page-fits)
         (append-keeps w b h clean pageData pageSpare data-long data-small page-fits)
-        (open-more p (scanned w) (h .opens i (f .low) some) es k lpn many (omega (arith, own .ppns, inside .few)) in-turn)
+        (open-more p (scanned w) (h .opens i (f .low) some) es k lpn drop many (omega (arith, own .ppns, inside .few)) in-turn)
         (λ j l n m. ofId-other (placeAt ps j .id) _ put-in (λ q. h .places .apart i j (f .low) l (λ r. n (sym r)) some (sym q)))
         (λ n. next-is-data w b h clean pageData pageSpare data-long data-small page-fits)
-        (writes-more (w .array) ys (w .map) (w .hold) (holdWith (w .hold) i d) i p (writesOf id (b .changes)) k lpn d own
+        (writes-more (w .array) ys (w .map) (w .hold) (holdWith (w .hold) i d) i p (writesOf id (b .changes)) k lpn drop d own
         (append-keeps w b h clean pageData pageSpare data-long data-small page-fits) room (hold-own (w .hold) i d (h .hold) low8 long) small
         (λ n. record {
+          real = next-mapped w b h clean pageData pageSpare data-long data-small page-fits;
           whole = append-whole w b h clean pageData pageSpare data-long data-small page-fits;
-          bytes = append-data w b h clean pageData pageSpare data-long data-small page-fits;
           owner = ap (λ (s : Spare). s .id) (append-spare w b h clean pageData pageSpare data-long data-small page-fits);
           free = next-free w b h clean pageData pageSpare data-long data-small page-fits;
         })
+        (λ n. append-data w b h clean pageData pageSpare data-long data-small page-fits)
         (λ n. next-blank w b h clean pageData pageSpare data-long data-small page-fits))
 
     -- it appends that page
-    pub page-appends : Appends w b (writePlan i p lpn d w)
-    page-appends = appends w b h clean pageData pageSpare data-long data-small page-fits (writePlan i p lpn d w)
-        (unfold writePlan heldOp dataBytes in rw (ne-eqb (p .count) 0 many)) (unfold writePlan withPlace in refl) (unfold writePlan withPlace in refl)
+    pub page-appends : Appends w b (writePlan i p lpn drop d w)
+    page-appends = appends w b h clean pageData pageSpare data-long data-small page-fits (writePlan i p lpn drop d w)
+        (unfold writePlan heldOp changeBytes in rw (ne-eqb (p .count) 0 many)) (unfold writePlan withPlace in refl) (unfold writePlan withPlace in refl)
 
-  pub write-live : (p .count ≢ 0 → zoneShort w ≡ false) → Live (carried (writePlan i p lpn d w) w .world) (record { pages = b .pages; changes = addTo id x (b .changes) })
-  unfolding carried writePlan heldOp applyOp dataBytes withPlace
+  pub write-live : (p .count ≢ 0 → zoneShort w ≡ false) → Live (carried (writePlan i p lpn drop d w) w .world) (record { pages = b .pages; changes = addTo id x (b .changes) })
+  unfolding carried writePlan heldOp applyOp changeBytes withPlace
   write-live short = go (eqb-cases (p .count) 0)
     where
       go : Is (p .count) 0 → Live (record {
-        array = applyOp (g .pages) (cond (eqb (p .count) 0) none (program (nextPage w) (dataBytes (heldAt i (w .hold)) (heldPage p) 0 (p .id) 0))) (w .array);
+        array = applyOp (g .pages) (cond (eqb (p .count) 0) none (program (nextPage w) (changeBytes (heldAt i (w .hold)) (heldDrop p) (heldPage p) 0 (p .id) 0))) (w .array);
         map = w .map;
         hold = holdWith (w .hold) i d;
-        state = withPlace (w .state) i (written p (nextPage w) lpn);
+        state = withPlace (w .state) i (written p (nextPage w) lpn drop);
       }) (record { pages = b .pages; changes = addTo id x (b .changes) })
       go (inl q) = rw (q .1) (first-live (nextPage w) (q .0))
       go (inr q) = rw (q .1) (more-live (q .0) (short (q .0)))
 
--- ---- a plan that writes or refuses so
-module _ (w : World) (b : Book) (id lpn : ℕ) (d : List ℕ) (h : Live w b) (f : fits (write id lpn d) ≡ true) where
-  pub write-bytes : Bytes d
-  unfolding fits
-  write-bytes = bytes-true d (and-right (ltb lpn 65536) (bytes d) (and-right (ltb id 4294967296) _ f))
+-- ---- a plan that adds a page so, or refuses
+-- what the book makes of the call: one more write of the change
+pub record Told (c : Call) (b : Book) (id lpn : ℕ) (drop : Bool) (d : List ℕ) : Type 0 where
+  pub pages : entering c b ≡ b .pages
+  pub changes : changing c (b .changes) ≡ addTo id (record { lpn = lpn; content = contentOf drop d }) (b .changes)
 
+pub write-told : (b : Book) (id lpn : ℕ) (d : List ℕ) → Told (write id lpn d) b id lpn false d
+unfolding entering changing
+write-told b id lpn d = record { pages = refl; changes = refl }
+
+drop-told : (b : Book) (id lpn : ℕ) → Told (dropPage id lpn) b id lpn true gone
+unfolding entering changing
+drop-told b id lpn = record { pages = refl; changes = refl }
+
+pub write-bytes : (id lpn : ℕ) (d : List ℕ) → fits (write id lpn d) ≡ true → Bytes d
+unfolding fits
+write-bytes id lpn d f = bytes-true d (and-right (ltb lpn 65536) (bytes d) (and-right (ltb id 4294967296) _ f))
+
+module _ (w : World) (b : Book) (id lpn : ℕ) (drop : Bool) (d : List ℕ) (h : Live w b) (small : Bytes d) where
   -- the change that it goes on with
-  pub write-found : {q : Plan} → WritesTo w id lpn d q → Found (w .state .places) id (placeOf (w .state .places) id)
-  write-found v = place-found (w .state .places) id (h .changing .eight) (v .begun)
+  pub add-found : {q : Plan} → WritesTo w id lpn drop d q → Found (w .state .places) id (placeOf (w .state .places) id)
+  add-found v = place-found (w .state .places) id (h .changing .eight) (v .begun)
 
   -- the geometry stays
-  pub view-shape : (q : Plan) → View w (WritesTo w id lpn d) q → q .state .geometry ≡ w .state .geometry
+  pub add-shape : (q : Plan) → View w (WritesTo w id lpn drop d) q → q .state .geometry ≡ w .state .geometry
   unfolding writePlan withPlace
-  view-shape q (no n r) = refl
-  view-shape q (yes p v) = rw (v .is) refl
+  add-shape q (no n r) = refl
+  add-shape q (yes p v) = rw (v .is) refl
 
   -- the world stays live
-  pub view-live : (q : Plan) → View w (WritesTo w id lpn d) q → Live (after q w) (tell b (called (write id lpn d) (q .answer)))
+  pub add-live : (c : Call) → Told c b id lpn drop d → (q : Plan) → View w (WritesTo w id lpn drop d) q → Live (after q w) (tell b (called c (q .answer)))
   unfolding carried applyOp writePlan
-  view-live q (no n r) = rw (told-refused b (write id lpn d) n r) h
-  view-live q (yes p v) = rw (v .is) (unfold tell entering changing in
-      write-live w b h id lpn d (v .idle) (v .long) write-bytes (v .low) (placeOf (w .state .places) id) (write-found v) (v .room) (v .clean))
+  add-live c t q (no n r) = rw (told-refused b c n r) h
+  add-live c t q (yes p v) = rw (v .is) (unfold tell in rw (t .pages, t .changes)
+      (write-live w b h id lpn drop d (v .idle) (v .long) small (v .low) (placeOf (w .state .places) id) (add-found v) (v .room) (v .clean)))
 
 pub write-keeps : (w : World) (b : Book) (id lpn : ℕ) (d : List ℕ) → Live w b → fits (write id lpn d) ≡ true → Keeps (write id lpn d) w b
 unfolding exec plan carried
-write-keeps w b id lpn d h f = view-live w b id lpn d h f (planWrite id lpn d w) (write-view id lpn d w)
+write-keeps w b id lpn d h f = add-live w b id lpn false d h (write-bytes id lpn d f) (write id lpn d) (write-told b id lpn d) (planWrite id lpn d w) (write-view id lpn d w)
+
+pub drop-keeps : (w : World) (b : Book) (id lpn : ℕ) → Live w b → Keeps (dropPage id lpn) w b
+unfolding exec plan carried
+drop-keeps w b id lpn h = add-live w b id lpn true gone h gone-small (dropPage id lpn) (drop-told b id lpn) (planDrop id lpn w) (drop-view id lpn w)

@@ -1,11 +1,15 @@
 // The commands that write pages: what they refuse, a test after the other, and else the pages of a change.
 ghost use mathlib.Core.Path.{_≡_};
-ghost use mathlib.Core.Bool.{not, _&&_};
+ghost use mathlib.Core.Bool.{true, not, _&&_};
+ghost use lib.ListN.{length};
 ghost use lib.Dec.{eqb, leb};
 ghost use Rattle.model.specs.Answers.{number};
 ghost use Rattle.model.specs.Zones.{availableOf, cleanIn};
-ghost use Rattle.model.specs.Commands.{Outcome, exec, write, lone, commit};
+ghost use Rattle.model.specs.Frame.{frameOk};
+ghost use Rattle.model.specs.Transactions.{addPlan};
+ghost use Rattle.model.specs.Commands.{Outcome, exec, write, dropPage, lone, commit};
 ghost use Rattle.zones.specs.Judging.{Ready};
+ghost use Rattle.change.specs.Changes.{done};
 use model::Answer;
 use model::Place;
 use model::Refusal;
@@ -24,31 +28,20 @@ fn held_short(s: State, array: &[u8], n: u8) -> bool
     change::zone_short(s, array)
 }
 
-/// Adds a page to an open change: 11, 5, 8, 10, 12.
-pub fn write(
+/// Adds a page that writes or drops a logical page to an open change: 5, 8, 10, 12.
+fn add(
     s: State,
     array: &mut [u8],
     map: &[u16],
     hold: &mut [u8],
     id: u32,
     lpn: u16,
+    drop: bool,
     data: &[u8],
 ) -> Stride
-    ensures { λ r. ⌜ _≡_ {A = Outcome} (record { answer = number (r .answer); world = record { array = now (array .exit); map = now (map .entry); hold = now (hold .exit); state = r .state } }) (exec (write id lpn (now («data» .entry))) (record { array = now (array .entry); map = now (map .entry); hold = now (hold .entry); state = s })) ⌝ }
+    requires { ⌜ (frameOk (record { array = now array; map = now map; hold = now hold; state = s }) ≡ true) × (length (now «data») ≡ 512) ⌝ }
+    ensures { λ r. ⌜ _≡_ {A = Outcome} (record { answer = number (r .answer); world = record { array = now (array .exit); map = now (map .entry); hold = now (hold .exit); state = r .state } }) (done (addPlan id lpn drop (now («data» .entry))) (record { array = now (array .entry); map = now (map .entry); hold = now (hold .entry); state = s })) ⌝ }
 {
-    let n = frame::gate(false, s, array, map, hold);
-    if n != 0 {
-        return Stride {
-            answer: frame::stopped(n),
-            state: s,
-        };
-    }
-    if data.len() != Spare::DATA {
-        return Stride {
-            answer: Answer::Refused(Refusal::BadLength),
-            state: s,
-        };
-    }
     if lpn >= s.geometry.logical {
         return Stride {
             answer: Answer::Refused(Refusal::BadLogicalPage),
@@ -76,11 +69,54 @@ pub fn write(
             state: s,
         };
     }
-    let t = change::write_in(s, array, map, hold, i, lpn, data);
+    let t = change::write_in(s, array, map, hold, i, lpn, drop, data);
     Stride {
         answer: Answer::Done,
         state: t,
     }
+}
+
+/// Adds a page to an open change: 11, 5, 8, 10, 12.
+pub fn write(
+    s: State,
+    array: &mut [u8],
+    map: &[u16],
+    hold: &mut [u8],
+    id: u32,
+    lpn: u16,
+    data: &[u8],
+) -> Stride
+    ensures { λ r. ⌜ _≡_ {A = Outcome} (record { answer = number (r .answer); world = record { array = now (array .exit); map = now (map .entry); hold = now (hold .exit); state = r .state } }) (exec (write id lpn (now («data» .entry))) (record { array = now (array .entry); map = now (map .entry); hold = now (hold .entry); state = s })) ⌝ }
+{
+    let n = frame::gate(false, s, array, map, hold);
+    if n != 0 {
+        return Stride {
+            answer: frame::stopped(n),
+            state: s,
+        };
+    }
+    if data.len() != Spare::DATA {
+        return Stride {
+            answer: Answer::Refused(Refusal::BadLength),
+            state: s,
+        };
+    }
+    add(s, array, map, hold, id, lpn, false, data)
+}
+
+/// Adds a page that drops a logical page to an open change: 5, 8, 10, 12.
+pub fn drop(s: State, array: &mut [u8], map: &[u16], hold: &mut [u8], id: u32, lpn: u16) -> Stride
+    ensures { λ r. ⌜ _≡_ {A = Outcome} (record { answer = number (r .answer); world = record { array = now (array .exit); map = now (map .entry); hold = now (hold .exit); state = r .state } }) (exec (dropPage id lpn) (record { array = now (array .entry); map = now (map .entry); hold = now (hold .entry); state = s })) ⌝ }
+{
+    let n = frame::gate(false, s, array, map, hold);
+    if n != 0 {
+        return Stride {
+            answer: frame::stopped(n),
+            state: s,
+        };
+    }
+    let gone = [0xFFu8; Spare::DATA];
+    add(s, array, map, hold, id, lpn, true, &gone)
 }
 
 /// Writes a page by itself: 11, 5, 13, 12.

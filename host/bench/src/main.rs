@@ -35,13 +35,13 @@ fn commands(table: &mut Table) {
     let clock = clock();
     let (mut lowest, mut highest) = (f64::MAX, f64::MIN);
     for (g, turns) in GEOMETRIES.into_iter().zip([2000, 1200, 1200]) {
-        let mut least = [[f64::MAX; 8]; 2];
-        let mut calls = [0; 8];
+        let mut least = [[f64::MAX; COMMANDS.len()]; 2];
+        let mut calls = [0; COMMANDS.len()];
         for round in 0..15 {
             let mut left = Vec::new();
             for (i, layer) in LAYERS.into_iter().enumerate() {
                 let (tally, store) = session::run(layer, g, turns, 7, clock);
-                for c in 0..8 {
+                for c in 0..COMMANDS.len() {
                     least[i][c] = least[i][c].min(tally.ns[c] / tally.calls[c].max(1) as f64);
                 }
                 calls = tally.calls;
@@ -50,7 +50,7 @@ fn commands(table: &mut Table) {
             assert!(left[0] == left[1], "round {round}: the two layers left different stores");
         }
         table.head(&format!("a call, {}", name(g)), None);
-        for c in 0..8 {
+        for c in 0..COMMANDS.len() {
             assert!(calls[c] > 0, "no {} in the session", COMMANDS[c]);
             let ratio = table.line(COMMANDS[c], least[0][c], least[1][c]);
             (lowest, highest) = (lowest.min(ratio), highest.max(ratio));
@@ -160,11 +160,12 @@ fn stack(table: &mut Table) {
     let data = vec![3; 512];
     assert_eq!(room.write(0xABCDEF, 1, &data), Answer::Done);
     println!("\n| stack of a call, {} | bytes |\n|---|---|", name(g));
-    let calls: [(&str, Call, &Store, &[u8]); 10] = [
+    let calls: [(&str, Call, &Store, &[u8]); 11] = [
         ("format", Call::Format(g), &full, &[255]),
         ("recover", Call::Recover(g), &full, &[0]),
         ("begin", Call::Begin(0xBCDEF0), &room, &[0]),
         ("write", Call::Write { id: 0xABCDEF, lpn: 3, data: data.clone() }, &room, &[0]),
+        ("drop", Call::Drop { id: 0xABCDEF, lpn: 3 }, &room, &[0]),
         ("lone write", Call::Lone { lpn: 3, data }, &room, &[0]),
         ("commit", Call::Commit(0xABCDEF), &room, &[0]),
         ("abort", Call::Abort(0xABCDEF), &room, &[0]),

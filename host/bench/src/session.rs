@@ -1,18 +1,18 @@
-//! A long random session, each call timed: changes, lone writes and reads, with a reclaim and a checkpoint whenever the zone is short.
+//! A long random session, each call timed: changes of writes and drops, lone writes and reads, with a reclaim and a checkpoint whenever the zone is short.
 use crate::layer::{kind, Layer};
 use crate::setup::Random;
 use bokuhira::{Answer, Call, Geometry, State, Store};
 use std::time::Instant;
 
 /// The commands of a session, as `kind` numbers them from begin on.
-pub const COMMANDS: [&str; 8] = ["begin", "write", "lone write", "commit", "abort", "read", "checkpoint, a stride", "reclaim, a stride"];
+pub const COMMANDS: [&str; 9] = ["begin", "write", "drop", "lone write", "commit", "abort", "read", "checkpoint, a stride", "reclaim, a stride"];
 
 /// What a session took and did.
 #[derive(Clone, Default)]
 pub struct Tally {
-    pub ns: [f64; 8],
-    pub calls: [u64; 8],
-    /// pages that callers wrote, and the operations on the flash
+    pub ns: [f64; COMMANDS.len()],
+    pub calls: [u64; COMMANDS.len()],
+    /// pages that callers wrote or dropped, and the operations on the flash
     pub pages: u64,
     pub programs: u64,
     pub erases: u64,
@@ -97,7 +97,9 @@ pub fn run(layer: Layer, g: Geometry, turns: u32, seed: u64, clock: f64) -> (Tal
                 assert_eq!(s.call(&Call::Begin(id)), 0);
                 let mut written = 0;
                 for _ in 0..1 + random.below(6) {
-                    let call = Call::Write { id, lpn: lpn(&mut random), data: data(&mut random) };
+                    let (lpn, data) = (lpn(&mut random), data(&mut random));
+                    // one page in eight is dropped
+                    let call = if random.below(8) == 0 { Call::Drop { id, lpn } } else { Call::Write { id, lpn, data } };
                     if s.page(&call) == 0 {
                         written += 1;
                     }

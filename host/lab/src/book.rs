@@ -7,11 +7,11 @@ pub struct Book {
     pub open: Vec<Change>,
 }
 
-/// An open change: its identifier and its writes in order.
+/// An open change: its identifier and its writes in order, each with what it leaves of its page: data, or, where it is a drop, nothing.
 #[derive(Clone, PartialEq, Eq, Debug)]
 pub struct Change {
     pub id: u32,
-    pub writes: Vec<(u16, Vec<u8>)>,
+    pub writes: Vec<(u16, Option<Vec<u8>>)>,
 }
 
 impl Book {
@@ -27,12 +27,17 @@ impl Book {
         }
         match call {
             Call::Begin(id) => self.open.push(Change { id: *id, writes: Vec::new() }),
-            Call::Write { id, lpn, data } => self.open.iter_mut().filter(|c| c.id == *id).for_each(|c| c.writes.push((*lpn, data.clone()))),
+            Call::Write { id, lpn, data } => self.add(*id, *lpn, Some(data.clone())),
+            Call::Drop { id, lpn } => self.add(*id, *lpn, None),
             Call::Commit(_) | Call::Lone { .. } => self.enter(call),
             Call::Abort(id) => self.open.retain(|c| c.id != *id),
             Call::Recover(_) => self.open.clear(),
             Call::Format(_) | Call::Read(_) | Call::Checkpoint | Call::Reclaim => (),
         }
+    }
+
+    fn add(&mut self, id: u32, lpn: u16, content: Option<Vec<u8>>) {
+        self.open.iter_mut().filter(|c| c.id == id).for_each(|c| c.writes.push((lpn, content.clone())));
     }
 
     /// What a cut does: `complete` says that its call programs a page and that all due bits of it were turned.
@@ -50,16 +55,16 @@ impl Book {
                 let (closed, open) = std::mem::take(&mut self.open).into_iter().partition(|c| c.id == *id);
                 self.open = open;
                 let closed: Vec<Change> = closed;
-                closed.into_iter().flat_map(|c| c.writes).for_each(|(lpn, data)| self.put(lpn, data));
+                closed.into_iter().flat_map(|c| c.writes).for_each(|(lpn, content)| self.put(lpn, content));
             }
-            Call::Lone { lpn, data } => self.put(*lpn, data.clone()),
+            Call::Lone { lpn, data } => self.put(*lpn, Some(data.clone())),
             _ => (),
         }
     }
 
-    fn put(&mut self, lpn: u16, data: Vec<u8>) {
+    fn put(&mut self, lpn: u16, content: Option<Vec<u8>>) {
         if let Some(page) = self.pages.get_mut(lpn as usize) {
-            *page = Some(data);
+            *page = content;
         }
     }
 }

@@ -12,8 +12,9 @@ const COUNTS: [usize; 3] = [9, 136, 263];
 const WORK: usize = 275;
 const STRIDE: usize = 276;
 const PLACES: usize = 278;
-const PLACE: usize = 261;
+const PLACE: usize = 325;
 const PLACE_COUNT: usize = 4;
+const PLACE_DROPS: usize = 261;
 
 /// Why that call answers 1; none where it does not. To format and recover, bytes that are no state count as a fresh one.
 pub fn why(store: &Store, call: &Call) -> Option<String> {
@@ -24,7 +25,17 @@ pub fn why(store: &Store, call: &Call) -> Option<String> {
         (Call::Recover(g), _) => ranges::lent(*g, store),
         (Call::Format(g), state) => ranges::lent(*g, store).or_else(|| own_format(*g, store, &state?)),
         (_, Some(state)) => frame(store, &state),
-        (_, None) => Some(format!("bytes that are no state: work of kind {} with stride number {}", store.state[WORK], stride(store))),
+        (_, None) => Some(format!("bytes that are no state: {}", no_state(store))),
+    }
+}
+
+/// Why bytes encode no state: a page of a place that is neither a write nor a drop, or the work under way.
+fn no_state(store: &Store) -> String {
+    let drops = |i: usize| &store.state[PLACES + PLACE * i + PLACE_DROPS..PLACES + PLACE * (i + 1)];
+    let odd = (0..8).find_map(|i| drops(i).iter().position(|d| *d > 1).map(|j| (i, j)));
+    match odd {
+        Some((i, j)) => format!("place {i}: {} for its page {j}: 0, a write, or 1, a drop, is expected", drops(i)[j]),
+        None => format!("work of kind {} with stride number {}", store.state[WORK], stride(store)),
     }
 }
 
@@ -117,6 +128,7 @@ mod tests {
             let calls = [
                 Call::Begin(7),
                 Call::Write { id: 1, lpn: 0, data: data.clone() },
+                Call::Drop { id: 1, lpn: 0 },
                 Call::Lone { lpn: 0, data },
                 Call::Commit(1),
                 Call::Abort(1),
@@ -140,6 +152,7 @@ mod tests {
             &[
                 "a state of # bytes",
                 "bytes that are no state: work of kind # with stride number #",
+                "bytes that are no state: place #: # for its page #",
                 "# blocks: # to # are allowed",
                 "an array of # bytes",
                 "a map of # entries",

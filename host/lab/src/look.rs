@@ -40,6 +40,8 @@ pub enum Look {
     TornHolds,
     ErasedHolds,
     HoldsAnother,
+    CommittedDrop,
+    DeadDrop,
 }
 
 /// A kind of cell: its class in the style sheet, its letter, and its words in the legend.
@@ -54,7 +56,7 @@ const fn kind(look: Look, css: &'static str, letter: &'static str, words: &'stat
     Kind { look, css, letter, words }
 }
 
-pub const KINDS: [Kind; 29] = [
+pub const KINDS: [Kind; 31] = [
     kind(Look::Erased, "e", "", "erased"),
     kind(Look::Active, "a", "A", "active: its change is open"),
     kind(Look::CommittedHolds, "c h", "C", "committed, and holds"),
@@ -83,7 +85,9 @@ pub const KINDS: [Kind; 29] = [
     kind(Look::Uncommitted, "u", "X", "not committed in the scan: dead or abandoned; does not hold"),
     kind(Look::TornHolds, "t h", "T", "torn, and yet holds"),
     kind(Look::ErasedHolds, "e h", "E", "erased, and yet holds"),
-    kind(Look::HoldsAnother, "b h", "L", "holds another logical page than its LPN says"),
+    kind(Look::HoldsAnother, "b h", "L", "holds another logical page than its LPN says, or is a drop and yet holds"),
+    kind(Look::CommittedDrop, "c", "U", "committed drop: it unmaps its logical page"),
+    kind(Look::DeadDrop, "d", "U", "dead drop: it unmapped its logical page"),
 ];
 
 /// The kind of a page.
@@ -102,6 +106,8 @@ pub fn look_of(page: &Page, fate: Fate, holds: Hold) -> Look {
         (_, Fate::Bad, _) => by_hold(Look::BadHolds, Look::Bad, Look::Bad),
         (_, _, Hold::Yet(_)) => Look::HoldsAnother,
         (_, Fate::Active, _) => Look::Active,
+        (_, Fate::Committed, _) if page.is_drop() => Look::CommittedDrop,
+        (_, Fate::Dead, _) if page.is_drop() => Look::DeadDrop,
         (_, Fate::Committed, _) => by_hold(Look::CommittedHolds, Look::Committed, Look::CommittedMaybe),
         (_, Fate::Dead, _) => by_hold(Look::DeadHolds, Look::Dead, Look::DeadMaybe),
         (_, Fate::Outside, _) => by_hold(Look::OutsideHolds, Look::Outside, Look::OutsideMaybe),
@@ -198,7 +204,8 @@ pub fn words(world: &World, k: usize) -> Words {
         (Class::Erased, _) => Words::default(),
         (Class::Torn(by), _) => Words { one: "torn".into(), two: format!("by {by}"), tell: torn_words(p), ..Words::default() },
         (Class::Whole, kind) => {
-            let (lpn, version, none) = (format!("LPN {}", p.lpn), format!("v{}", p.ver), String::new);
+            let lpn = format!("{} {}", if p.is_drop() { "drop" } else { "LPN" }, p.lpn);
+            let (version, none) = (format!("v{}", p.ver), String::new);
             let (one, two, mark, version) = match (kind, p.id, p.cnt) {
                 (1, ..) => (format!("map {}", p.lpn), format!("checkpt {}", p.ver), none(), none()),
                 (2, ..) => ("zones".into(), format!("checkpt {}", p.ver), none(), none()),
@@ -208,7 +215,7 @@ pub fn words(world: &World, k: usize) -> Words {
             };
             let fields = format!("LPN {}, TxCnt {}, TxID {}, TxVer {}, Kind {} {}", p.lpn, p.cnt, p.id, p.ver, p.kind, p.kind_word());
             let data = if kind == 0 { format!(", data {}", data_words(world.data(k))) } else { String::new() };
-            Words { one, two, mark, version, tell: format!("whole; {fields}{data}"), id: if kind == 0 { p.id } else { 0 } }
+            Words { one, two, mark, version, tell: format!("whole; {fields}{data}"), id: if p.is_of_change() { p.id } else { 0 } }
         }
     }
 }
@@ -239,6 +246,6 @@ mod tests {
     #[test]
     fn every_look_finds_its_own_kind() {
         assert!(KINDS.iter().enumerate().all(|(i, kind)| kind.look as usize == i));
-        assert_eq!(Look::HoldsAnother as usize, KINDS.len() - 1);
+        assert_eq!(Look::DeadDrop as usize, KINDS.len() - 1);
     }
 }

@@ -35,7 +35,8 @@ impl Lot {
         let data = seeded(self.below(256));
         match self.below(16) {
             0..=2 => Call::Begin(id),
-            3..=7 => Call::Write { id, lpn, data },
+            3..=6 => Call::Write { id, lpn, data },
+            7 => Call::Drop { id, lpn },
             8 => Call::Lone { lpn, data },
             9..=11 => Call::Commit(id),
             12 => Call::Abort(id),
@@ -103,7 +104,7 @@ impl Lot {
             8 => (2, 7),
             _ => (0, 0),
         };
-        let (kind, reserved) = self.pick(&[(0, 0), (0, 0), (0, 0), (0, 0), (0, 0), (0, 0), (1, 0), (0, 1)]);
+        let (kind, reserved) = self.pick(&[(0, 0), (0, 0), (0, 0), (0, 0), (3, 0), (3, 0), (1, 0), (2, 0), (4, 0), (0, 1), (3, 1)]);
         whole_page(&[7; DATA], lpn, cnt, id, ver, kind, reserved)
     }
 
@@ -155,7 +156,7 @@ impl Lot {
                 store.map[at] = self.pick(&[0, 2 * g.pages - 1, 2 * g.pages, 2 * g.pages, g.blocks * g.pages]);
             }
             4 if store.state.len() > 300 => {
-                let at = self.pick(&[9, 136, 263, 264, 273, 274, 275, 276, 278 + 4, 278 + 5, 278 + 133]);
+                let at = self.pick(&[9, 136, 263, 264, 273, 274, 275, 276, 278 + 4, 278 + 5, 278 + 133, 278 + 261, 278 + 325 + 324]);
                 store.state[at] = self.pick(&[0, 1, 2, 3, 4, 5, 9, 65, 127, 255]);
             }
             _ => self.spoil_state(g, store),
@@ -188,7 +189,8 @@ impl Lot {
             _ => {
                 let (lpn, ppn) = (self.pick(&[0, 0, g.logical]), self.pick(&[2 * g.pages, 2 * g.pages, 2 * g.pages - 1]));
                 let pages = self.pick(&[1, 2, 64, 65]);
-                s.places[i] = Place { id: self.pick(&[0, 1, 2, 3]), lpns: vec![lpn; pages], ppns: vec![ppn; pages - 1] };
+                let drop = self.below(2) == 0;
+                s.places[i] = Place { id: self.pick(&[0, 1, 2, 3]), lpns: vec![lpn; pages], ppns: vec![ppn; pages - 1], drops: vec![drop; pages] };
             }
         }
         store.state = s.encode();

@@ -3,6 +3,9 @@
 use bokuhira::{Class, Geometry, DATA, PAGE};
 use std::sync::atomic::{AtomicU64, Ordering};
 
+/// Kind of a page that drops its logical page.
+const DROP: u8 = 3;
+
 /// A page's class and the fields of its spare area. On a torn page the fields are only what stands there.
 #[derive(Clone, Copy, PartialEq, Eq, Debug)]
 pub struct Page {
@@ -41,11 +44,21 @@ impl Page {
         matches!(self.class, Class::Torn(_))
     }
 
+    pub fn is_drop(&self) -> bool {
+        self.kind == DROP
+    }
+
+    /// Whether it is of a kind that changes and lone writes program: a write or a drop.
+    pub fn is_of_change(&self) -> bool {
+        self.kind == 0 || self.is_drop()
+    }
+
     pub fn kind_word(&self) -> String {
         match self.kind {
             0 => "data".into(),
             1 => "map".into(),
             2 => "zone".into(),
+            DROP => "drop".into(),
             k => k.to_string(),
         }
     }

@@ -8,7 +8,7 @@ use crate::{
 use bokuhira::{Call, Geometry, DATA};
 
 /// The layer's calls by their words.
-pub const CALLS: [&str; 10] = ["begin", "write", "lone", "commit", "abort", "read", "checkpoint", "reclaim", "format", "recover"];
+pub const CALLS: [&str; 11] = ["begin", "write", "drop", "lone", "commit", "abort", "read", "checkpoint", "reclaim", "format", "recover"];
 
 /// The words of a line, the same in lower case, and the geometry that a call may leave out.
 pub struct Words<'a> {
@@ -124,6 +124,10 @@ impl Words<'_> {
             Some("write") => {
                 inner.exactly(4, n)?;
                 Call::Write { id: id(1)?, lpn: lpn(2)?, data: inner.data(3)? }
+            }
+            Some("drop") => {
+                inner.exactly(3, n)?;
+                Call::Drop { id: id(1)?, lpn: lpn(2)? }
             }
             Some("lone") => {
                 inner.exactly(3, n)?;

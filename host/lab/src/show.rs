@@ -4,7 +4,7 @@ use crate::{
     data::data_words,
     trace::kind_word,
     view::{Fate, Hold, View, Zone},
-    words::{class_words, numbers, page_name, plural, torn_words},
+    words::{class_words, lpn_words, numbers, page_name, plural, torn_words},
     world::World,
 };
 use bokuhira::{Class, Kind, DATA, UNMAPPED};
@@ -183,7 +183,8 @@ fn page(world: &World, view: &View, k: usize) -> String {
     if p.is_torn() {
         text += "  what stands there, though a torn page belongs to nobody:\n";
     }
-    text += &format!("  LPN {}, TxCnt {}, TxID {}, TxVer {}, Kind {}, Reserved {}\n", p.lpn, p.cnt, p.id, p.ver, p.kind, p.reserved);
+    let drop = if p.is_drop() { " (drop)" } else { "" };
+    text += &format!("  LPN {}, TxCnt {}, TxID {}, TxVer {}, Kind {}{drop}, Reserved {}\n", p.lpn, p.cnt, p.id, p.ver, p.kind, p.reserved);
     text += &format!("  Zeros {}, counted {}\n", p.zeros, p.counted());
     if p.is_whole() {
         text += &format!("  transaction: {}{}\n", fate_words(world, view, k), holds_unknown(view, b));
@@ -210,13 +211,14 @@ fn map(world: &World, view: &View) -> String {
             continue;
         };
         let but = match p.class {
+            Class::Whole if p.is_drop() => "; but that page is a drop".into(),
             Class::Whole if p.lpn as usize == lpn => String::new(),
             Class::Whole => format!("; but that page carries LPN {}", p.lpn),
             class => format!("; but that page is {}", class_words(class)),
         };
         text += &format!("  LPN {lpn:4} is in {}: {}{but}\n", page_name(world.geometry, k), data_words(world.data(k)));
     }
-    text + &format!("  {} mapped, {} never written\n", world.mapped_count(), world.store.map.len() - world.mapped_count())
+    text + &format!("  {} mapped, {} unmapped\n", world.mapped_count(), world.store.map.len() - world.mapped_count())
 }
 
 fn changes(world: &World) -> String {
@@ -226,11 +228,12 @@ fn changes(world: &World) -> String {
     for (i, p) in s.places.iter().enumerate().filter(|(_, p)| !p.is_free()) {
         none = false;
         text += &format!("  place {i}: identifier {}, {} written\n", p.id, plural(p.lpns.len(), "page"));
-        for (lpn, k) in p.lpns.iter().zip(&p.ppns) {
-            text += &format!("    LPN {lpn} in {}\n", page_name(world.geometry, *k as usize));
+        let written: Vec<String> = p.lpns.iter().zip(&p.drops).map(|(lpn, drop)| lpn_words(*drop, *lpn)).collect();
+        for (lpn, k) in written.iter().zip(&p.ppns) {
+            text += &format!("    {lpn} in {}\n", page_name(world.geometry, *k as usize));
         }
-        if let Some(lpn) = p.lpns.last() {
-            text += &format!("    LPN {lpn} held: {}\n", data_words(&world.store.hold[i * DATA..(i + 1) * DATA]));
+        if let Some(lpn) = written.last() {
+            text += &format!("    {lpn} held: {}\n", data_words(&world.store.hold[i * DATA..(i + 1) * DATA]));
         }
     }
     if none {
@@ -246,7 +249,7 @@ fn transactions(world: &World, view: &View) -> String {
     let known = view.zones_known();
     let scan: Vec<usize> = match known {
         true => view.scan().collect(),
-        false => (0..pages.len()).filter(|k| view.zone(*k) != Zone::Front && pages[*k].kind == 0).collect(),
+        false => (0..pages.len()).filter(|k| view.zone(*k) != Zone::Front && pages[*k].is_of_change()).collect(),
     };
     let mut text = match known {
         true => String::from("transactions in scan order\n"),
@@ -319,7 +322,11 @@ fn book(world: &World, view: &View) -> String {
         text += &format!("  {} never written\n", plural(never, if never < book.pages.len() { "more logical page" } else { "logical page" }));
     }
     for c in &book.open {
-        let writes: Vec<String> = c.writes.iter().map(|(lpn, data)| format!("LPN {lpn} {}", data_words(data))).collect();
+        let write = |(lpn, content): &(u16, Option<Vec<u8>>)| match content {
+            Some(data) => format!("LPN {lpn} {}", data_words(data)),
+            None => lpn_words(true, *lpn),
+        };
+        let writes: Vec<String> = c.writes.iter().map(write).collect();
         text +=
             &format!("  open in the book: identifier {}: {}\n", c.id, if writes.is_empty() { "nothing written".into() } else { writes.join(", ") });
     }

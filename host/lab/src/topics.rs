@@ -30,10 +30,11 @@ pub const TOPICS: [(&str, &str); 8] = [
         "A page is erased (all ones), whole (its Zeros field agrees with its zero bits) or torn (it does not;\n\
          a torn page belongs to nobody; 'help torn': by how much). A whole page belongs to a transaction, by\n\
          its TxID; a page with TxID 0 is a lone write, a transaction by itself. A page with TxCnt above 0 is\n\
-         its mark. Scan order is the unavailable blocks, then the available ones. Clean are the erased pages\n\
-         after the last one of a block that is not erased; only these are programmed. The pointer is the block\n\
-         from which on a checkpoint takes free ones. A stride is what one call of a format, a checkpoint or a\n\
-         reclaim does: at most one program or erase.\n\
+         its mark. A page of Kind 3 is a drop: it unmaps its logical page once it is entered, and never holds.\n\
+         Scan order is the unavailable blocks, then the available ones. Clean are the erased pages after the\n\
+         last one of a block that is not erased; only these are programmed. The pointer is the block from which\n\
+         on a checkpoint takes free ones. A stride is what one call of a format, a checkpoint or a reclaim\n\
+         does: at most one program or erase.\n\
          \x20 active            its identifier is one of an open change\n\
          \x20 committed         its mark's TxCnt equals the number of its whole pages in scan order, and TxVer\n\
          \x20                   is above the last version in the newest checkpoint: a recovery enters it\n\
@@ -97,11 +98,11 @@ pub const TOPICS: [(&str, &str); 8] = [
          \x20 7 identifier live   active, or still on a whole page in scan order\n\
          \x20 8 not begun         no open change has that identifier\n\
          \x20 9 places full       eight changes are open\n\
-         \x2010 too long          41 pages or more are already written; the change can be committed or aborted\n\
+         \x2010 too long          41 pages or more are already written, drops counted; the change can be committed or aborted\n\
          \x2011 bad length        data not 512 bytes\n\
          \x2012 zone short        too few clean pages; checkpoint, and if that is not enough reclaim and checkpoint again\n\
          \x2013 versions spent    no number is left\n\
-         \x2014 never written     the logical page is unmapped\n\
+         \x2014 never written     the logical page is unmapped: never written, or dropped\n\
          \x2015 no gain           no checkpointed block has a page to spare\n\
          \x2016 reserve short     fewer clean pages than copies due\n\
          \x2017 busy              another command of several strides is under way",

@@ -42,8 +42,9 @@ fn state_words(s: &State) -> String {
             if p.is_free() {
                 return "-".into();
             }
-            let programmed: Vec<String> = p.lpns.iter().zip(&p.ppns).map(|(l, k)| format!("{l}@{k}")).collect();
-            format!("{}[{}]{}", p.id, programmed.join(","), p.lpns.last().map_or(String::new(), |l| l.to_string()))
+            let written: Vec<String> = p.lpns.iter().zip(&p.drops).map(|(l, drop)| format!("{}{l}", if *drop { "~" } else { "" })).collect();
+            let programmed: Vec<String> = written.iter().zip(&p.ppns).map(|(l, k)| format!("{l}@{k}")).collect();
+            format!("{}[{}]{}", p.id, programmed.join(","), written.last().map_or("", String::as_str))
         })
         .collect();
     let (g, z) = (s.geometry, &s.zones);
@@ -102,13 +103,18 @@ fn place_of(word: &str) -> Option<Place> {
     let (id, rest) = word.split_once('[')?;
     let (programmed, held) = rest.split_once(']')?;
     let mut place = Place { id: id.parse().ok()?, ..Place::default() };
+    let write = |place: &mut Place, lpn: &str| {
+        place.drops.push(lpn.starts_with('~'));
+        place.lpns.push(lpn.strip_prefix('~').unwrap_or(lpn).parse().ok()?);
+        Some(())
+    };
     for one in programmed.split(',').filter(|x| !x.is_empty()) {
         let (lpn, ppn) = one.split_once('@')?;
-        place.lpns.push(lpn.parse().ok()?);
+        write(&mut place, lpn)?;
         place.ppns.push(ppn.parse().ok()?);
     }
     if !held.is_empty() {
-        place.lpns.push(held.parse().ok()?);
+        write(&mut place, held)?;
     }
     Some(place)
 }

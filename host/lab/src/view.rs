@@ -65,9 +65,9 @@ pub enum Hold {
     /// No map is known.
     Unknown,
     No,
-    /// It does, and the page is a whole one of that logical page.
+    /// It does, and the page is a whole write of that logical page.
     Yes,
-    /// It does, for this logical page, and yet the page is no whole one of it.
+    /// It does, for this logical page, and yet the page is no whole write of it.
     Yet(u16),
 }
 
@@ -260,7 +260,7 @@ fn held(pages: &[Page], map: &[u16]) -> Vec<Hold> {
     for (lpn, k) in map.iter().enumerate() {
         let (lpn, k) = (lpn as u16, *k as usize);
         match pages.get(k) {
-            Some(p) if p.is_whole() && p.lpn == lpn => holds[k] = Hold::Yes,
+            Some(p) if p.is_whole() && p.lpn == lpn && !p.is_drop() => holds[k] = Hold::Yes,
             Some(_) if holds[k] == Hold::No => holds[k] = Hold::Yet(lpn),
             _ => (),
         }

@@ -140,7 +140,7 @@ pub fn bad_pages(g: Geometry, pages: &[Page], scan: impl Iterator<Item = usize>)
 fn clause(g: Geometry, p: &Page) -> Option<String> {
     let top = 0xFFFF_FFFF;
     match p {
-        _ if p.kind != 0 => Some(format!("Kind {}", p.kind)),
+        _ if !p.is_of_change() => Some(format!("Kind {}", p.kind)),
         _ if p.reserved != 0 => Some(format!("Reserved {}", p.reserved)),
         _ if p.lpn >= g.logical => Some(format!("LPN {}, with {}", p.lpn, plural(g.logical as usize, "logical page"))),
         _ if (p.cnt == 0) != (p.ver == 0) => Some(format!("TxCnt {} with TxVer {}: only one is zero", p.cnt, p.ver)),

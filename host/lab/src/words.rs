@@ -38,16 +38,21 @@ pub fn torn_words(p: &Page) -> String {
     format!("{}: Zeros {}, counted {}", class_words(p.class), p.zeros, p.counted())
 }
 
+/// A logical page that is written or dropped, as in "LPN 3" or "drop of LPN 3".
+pub fn lpn_words(drop: bool, lpn: u16) -> String {
+    format!("{}LPN {lpn}", if drop { "drop of " } else { "" })
+}
+
 /// The fields of a whole page in words.
 pub fn page_words(p: &Page) -> String {
+    let lpn = lpn_words(p.is_drop(), p.lpn);
     match (p.kind, p.id, p.cnt) {
         (1, ..) => format!("map page {} of checkpoint {}", p.lpn, p.ver),
         (2, ..) => format!("zone page of checkpoint {}", p.ver),
-        (0, 0, _) => format!("LPN {}, lone, version {}", p.lpn, p.ver),
-        (0, id, 0) => format!("LPN {}, identifier {id}", p.lpn),
-        (0, id, 1) => format!("LPN {}, identifier {id}, mark: 1 page, version {}", p.lpn, p.ver),
-        (0, id, n) => format!("LPN {}, identifier {id}, mark: {n} pages, version {}", p.lpn, p.ver),
-        (kind, ..) => format!("LPN {}, identifier {}, kind {kind}", p.lpn, p.id),
+        (4.., ..) => format!("{lpn}, identifier {}, kind {}", p.id, p.kind),
+        (_, 0, _) => format!("{lpn}, lone, version {}", p.ver),
+        (_, id, 0) => format!("{lpn}, identifier {id}"),
+        (_, id, n) => format!("{lpn}, identifier {id}, mark: {}, version {}", plural(n as usize, "page"), p.ver),
     }
 }
 
@@ -65,7 +70,7 @@ pub fn call_line(text: &str, world: &World, call: &Call, answer: Answer, op: Op)
     let mut parts = vec![format!("{text}: {}", answer_words(answer))];
     match (call, answer) {
         (Call::Read(lpn), Answer::Done) => parts.push(data_words(world.data(world.store.map[*lpn as usize] as usize))),
-        (Call::Write { .. }, Answer::Done) => parts.push("held".into()),
+        (Call::Write { .. } | Call::Drop { .. }, Answer::Done) => parts.push("held".into()),
         (Call::Recover(_), Answer::Done) => {
             if let Some(s) = world.state() {
                 parts.push(format!(

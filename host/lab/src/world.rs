@@ -214,7 +214,7 @@ mod tests {
         marks.sort_by_key(|k| pages[*k].ver);
         for mark in marks {
             for k in committed.iter().filter(|k| **k == mark || (pages[mark].id != 0 && pages[**k].id == pages[mark].id)) {
-                map[pages[*k].lpn as usize] = *k as u16;
+                map[pages[*k].lpn as usize] = if pages[*k].is_drop() { UNMAPPED } else { *k as u16 };
             }
         }
         map
@@ -265,7 +265,7 @@ mod tests {
     impl Truth {
         fn follows(&mut self, call: &Call, done: bool, op: Op, pages: usize) {
             let change = match call {
-                Call::Write { id, .. } | Call::Commit(id) => self.open.get(id).copied(),
+                Call::Write { id, .. } | Call::Drop { id, .. } | Call::Commit(id) => self.open.get(id).copied(),
                 _ => None,
             };
             match op {

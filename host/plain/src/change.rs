@@ -1,8 +1,8 @@
-//! The pages of a change: begin, write, lone write, commit, abort and read.
+//! The pages of a change: begin, write, drop, lone write, commit, abort and read.
 use crate::flash::{next_page, pages, pages_mut, Geometry};
 use crate::frame;
-use crate::page::{id_of, is_whole, program, Page, Spare};
-use crate::state::State;
+use crate::page::{id_of, is_whole, leads, program, Page, Spare};
+use crate::state::{Place, State};
 use crate::{ensure, Answer, Outcome, Refusal, DATA, LAST, LONGEST, PAGE, PLACES, STATE, UNMAPPED};
 use std::ops::Deref;
 
@@ -42,9 +42,19 @@ pub fn begin(array: &[u8], map: &[u16], hold: &[u8], mut state: State<&mut Bytes
     Ok(Answer::Done)
 }
 
-pub fn write(array: &mut [u8], map: &[u16], hold: &mut [u8], mut state: State<&mut Bytes>, id: u32, lpn: u16, data: &[u8]) -> Outcome {
+pub fn write(array: &mut [u8], map: &[u16], hold: &mut [u8], state: State<&mut Bytes>, id: u32, lpn: u16, data: &[u8]) -> Outcome {
     let g = idle(array, map, hold, &state)?;
     ensure(data.len() == DATA, Refusal::BadLength)?;
+    add(g, array, hold, state, id, lpn, Some(data))
+}
+
+pub fn drop_page(array: &mut [u8], map: &[u16], hold: &mut [u8], state: State<&mut Bytes>, id: u32, lpn: u16) -> Outcome {
+    let g = idle(array, map, hold, &state)?;
+    add(g, array, hold, state, id, lpn, None)
+}
+
+/// Adds a page to a change: a write of these data, or a drop.
+fn add(g: Geometry, array: &mut [u8], hold: &mut [u8], mut state: State<&mut Bytes>, id: u32, lpn: u16, data: Option<&[u8]>) -> Outcome {
     ensure(usize::from(lpn) < g.logical, Refusal::BadLogicalPage)?;
     let i = active(&state, id)?;
     let place = state.place(i);
@@ -54,12 +64,18 @@ pub fn write(array: &mut [u8], map: &[u16], hold: &mut [u8], mut state: State<&m
     if place.count() > 0 {
         let pages = pages_mut(array);
         let k = next(pages, g, &state)?;
-        program(&mut pages[k], held, Spare::data(place.held(), 0, id, 0));
+        program(&mut pages[k], held, held_spare(place, 0, 0));
         programmed = Some(k);
     }
-    held.copy_from_slice(data);
-    state.add_page(i, lpn, programmed);
+    held.copy_from_slice(data.unwrap_or(&[0xFF; DATA]));
+    state.add_page(i, lpn, data.is_none(), programmed);
     Ok(Answer::Done)
+}
+
+/// The spare area of the page that a place holds.
+fn held_spare(place: Place, count: u16, version: u32) -> Spare {
+    let spare = if place.holds_drop() { Spare::dropping } else { Spare::data };
+    spare(place.held(), count, place.id(), version)
 }
 
 pub fn lone(array: &mut [u8], map: &mut [u16], hold: &[u8], mut state: State<&mut Bytes>, lpn: u16, data: &[u8]) -> Outcome {
@@ -83,9 +99,9 @@ pub fn commit(array: &mut [u8], map: &mut [u16], hold: &[u8], mut state: State<&
         let version = next_version(&state)?;
         let pages = pages_mut(array);
         let k = next(pages, g, &state)?;
-        program(&mut pages[k], &hold[DATA * i..][..DATA], Spare::data(place.held(), place.count() as u16, id, version));
-        for (lpn, ppn) in place.lpns().zip(place.ppns().chain([k as u16])) {
-            map[usize::from(lpn)] = ppn;
+        program(&mut pages[k], &hold[DATA * i..][..DATA], held_spare(place, place.count() as u16, version));
+        for ((lpn, ppn), drop) in place.lpns().zip(place.ppns().chain([k as u16])).zip(place.drops()) {
+            map[usize::from(lpn)] = leads(drop, ppn);
         }
         state.set_version(version);
     }

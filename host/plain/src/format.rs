@@ -9,7 +9,7 @@ use crate::{ensure, Answer, Outcome, Refusal, STATE, UNMAPPED};
 pub fn format(array: &mut [u8], map: &mut [u16], hold: &[u8], mut state: State<&mut [u8; STATE]>, g: Geometry) -> Outcome {
     frame::lengths(g, array, map, hold)?;
     let stride = match state.work() {
-        Work::Format(stride) if state.geometry() == g => {
+        Work::Format(stride) if state.encoded() && state.geometry() == g => {
             ensure(frame::format_in_range(g, pages(array), stride), Refusal::BadFrame)?;
             stride
         }

@@ -1,7 +1,7 @@
 //! The flash layer of document 01 (docs/PAPERS.md) in plain Rust, written from the papers and apart from the proved one.
 //!
-//! Ten functions over lent buffers: the array, the map, the hold and the 2,366 bytes of a state. Each answers 0 for done, 255 for more,
-//! else the number of a refusal, which leaves every buffer as it was. Any bytes of any length may be lent. Format and recover take any 2,366
+//! Eleven functions over lent buffers: the array, the map, the hold and the 2,878 bytes of a state. Each answers 0 for done, 255 for more,
+//! else the number of a refusal, which leaves every buffer as it was. Any bytes of any length may be lent. Format and recover take any 2,878
 //! bytes for the state; to the others, bytes that encode none are a bad frame. Two more tell how torn pages are.
 
 mod change;
@@ -24,13 +24,13 @@ pub const PAGE: usize = 528;
 pub const DATA: usize = 512;
 /// The bytes of the hold and of a state.
 pub const HOLD: usize = 4096;
-pub const STATE: usize = 2366;
+pub const STATE: usize = 2878;
 
 const PLACES: usize = 8;
 /// The pages that a place has room for, and those up to which a transaction may be written.
 const PLACE_PAGES: usize = 64;
 const LONGEST: usize = 41;
-/// The map entry of a logical page that was never written.
+/// The map entry of a logical page that was never written, or was dropped.
 const UNMAPPED: u16 = 0xFFFF;
 /// The highest version and the highest checkpoint number; the one above is no identifier either.
 const LAST: u32 = 0xFFFF_FFFE;
@@ -105,6 +105,11 @@ pub fn begin(array: &[u8], map: &[u16], hold: &[u8], state: &mut [u8], id: u32) 
 /// Holds a page for a transaction; the page held before it is programmed.
 pub fn write(array: &mut [u8], map: &[u16], hold: &mut [u8], state: &mut [u8], id: u32, lpn: u16, data: &[u8]) -> u8 {
     number(State::edit(state).and_then(|s| change::write(array, map, hold, s, id, lpn, data)))
+}
+
+/// Holds a page for a transaction that drops a logical page; the page held before it is programmed.
+pub fn drop_page(array: &mut [u8], map: &[u16], hold: &mut [u8], state: &mut [u8], id: u32, lpn: u16) -> u8 {
+    number(State::edit(state).and_then(|s| change::drop_page(array, map, hold, s, id, lpn)))
 }
 
 /// Programs a page that is a transaction by itself.

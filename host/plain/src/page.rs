@@ -1,10 +1,12 @@
 //! One page: its class, its spare area, and how it is programmed.
-use crate::{DATA, PAGE};
+use crate::{DATA, PAGE, UNMAPPED};
 
 pub type Page = [u8; PAGE];
 
 /// A page of nothing but zero bits has this many before Zeros.
 const MOST_ZEROS: u32 = 526 * 8;
+/// Kind of a page that drops its logical page.
+const DROP: u8 = 3;
 
 /// What a page is; of a torn one, Zeros minus the zero bits counted.
 #[derive(Clone, Copy, PartialEq, Eq, Debug)]
@@ -40,6 +42,24 @@ impl Spare {
     /// The spare area of a data page.
     pub fn data(lpn: u16, count: u16, id: u32, version: u32) -> Spare {
         Spare { lpn, count, id, version, kind: 0, reserved: 0 }
+    }
+
+    /// The spare area of a page that drops its logical page.
+    pub fn dropping(lpn: u16, count: u16, id: u32, version: u32) -> Spare {
+        Spare { kind: DROP, ..Spare::data(lpn, count, id, version) }
+    }
+
+    pub fn is_drop(self) -> bool {
+        self.kind == DROP
+    }
+}
+
+/// What a page's logical page is mapped to once it is entered.
+pub fn leads(drop: bool, ppn: u16) -> u16 {
+    if drop {
+        UNMAPPED
+    } else {
+        ppn
     }
 }
 

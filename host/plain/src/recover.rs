@@ -2,7 +2,7 @@
 use crate::checkpoint::{spare, ENTRIES};
 use crate::flash::{pages, Geometry, MOST_LOGICAL};
 use crate::frame;
-use crate::page::{is_whole, Page, Spare};
+use crate::page::{is_whole, leads, Page, Spare};
 use crate::state::State;
 use crate::zones::Zones;
 use crate::{ensure, Answer, Outcome, Refusal, DATA, LAST, STATE, UNMAPPED};
@@ -67,7 +67,8 @@ struct Entry {
     version: u32,
     count: u16,
     lpn: u16,
-    ppn: u16,
+    /// What its logical page is mapped to once it is entered.
+    leads: u16,
 }
 
 /// The whole pages, those of one transaction together and in scan order, and the highest version.
@@ -90,7 +91,7 @@ impl<'a> Scan<'a> for Log {
         for (ppn, page) in zones.scan(pages, g).filter(|(_, p)| is_whole(p)) {
             let s = Spare::of(page);
             ensure(good(s, g), Refusal::BadPage)?;
-            entries.push(Entry { id: s.id, version: s.version, count: s.count, lpn: s.lpn, ppn: ppn as u16 });
+            entries.push(Entry { id: s.id, version: s.version, count: s.count, lpn: s.lpn, leads: leads(s.is_drop(), ppn as u16) });
             if s.version != 0 {
                 versions.push(s.version);
             }
@@ -120,7 +121,7 @@ impl<'a> Scan<'a> for Log {
             for page in pages {
                 let lpn = usize::from(page.lpn);
                 if version >= entered[lpn] {
-                    (entered[lpn], map[lpn]) = (version, page.ppn);
+                    (entered[lpn], map[lpn]) = (version, page.leads);
                 }
             }
         }
@@ -129,7 +130,7 @@ impl<'a> Scan<'a> for Log {
 
 /// What refusal 4 asks of a whole page by itself.
 fn good(s: Spare, g: Geometry) -> bool {
-    s.kind == 0
+    (s.kind == 0 || s.is_drop())
         && s.reserved == 0
         && usize::from(s.lpn) < g.logical
         && (s.count == 0) == (s.version == 0)
@@ -180,7 +181,7 @@ impl<'a> Scan<'a> for Rescan<'a> {
         let mut last = floor;
         while let Some((ppn, mark)) = self.whole().filter(|(_, s)| s.version > last).min_by_key(|(_, s)| s.version) {
             if self.of(ppn, mark).count() == usize::from(mark.count) {
-                self.of(ppn, mark).for_each(|(n, s)| map[usize::from(s.lpn)] = n as u16);
+                self.of(ppn, mark).for_each(|(n, s)| map[usize::from(s.lpn)] = leads(s.is_drop(), n as u16));
             }
             last = mark.version;
         }

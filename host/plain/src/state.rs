@@ -10,7 +10,7 @@
 //! | 265, 269 | 4 each | last version, checkpoint number |
 //! | 273, 274 | 1 each | front block, first page of a checkpoint under way |
 //! | 275, 276 | 1, 2 | kind of the work under way, stride number |
-//! | 278 | 8 × 261 | places: TxID (4), count (1), 64 logical and 64 physical page numbers (2 each) |
+//! | 278 | 8 × 325 | places: TxID (4), count (1), 64 logical and 64 physical page numbers (2 each), 64 times 0 for a write or 1 for a drop |
 use crate::flash::Geometry;
 use crate::zones::Zones;
 use crate::{ensure, Refusal, PLACES, PLACE_PAGES, STATE};
@@ -29,7 +29,11 @@ const FIRST: usize = 274;
 const KIND: usize = 275;
 const STRIDE: usize = 276;
 const PLACE: usize = 278;
-const PLACE_BYTES: usize = 5 + 4 * PLACE_PAGES;
+const PLACE_BYTES: usize = DROPS + PLACE_PAGES;
+/// Within a place: the logical pages, the physical ones, and which of them are drops.
+const LPNS: usize = 5;
+const PPNS: usize = LPNS + 2 * PLACE_PAGES;
+const DROPS: usize = PPNS + 2 * PLACE_PAGES;
 
 /// The work under way, with its stride number.
 #[derive(Clone, Copy, PartialEq, Eq)]
@@ -46,14 +50,16 @@ pub struct State<B>(B);
 impl<'a> State<&'a Bytes> {
     pub fn view(bytes: &'a [u8]) -> Result<State<&'a Bytes>, Refusal> {
         let bytes = bytes.try_into().map_err(|_| Refusal::BadFrame)?;
-        work_in(bytes).map(|_| State(bytes)).ok_or(Refusal::BadFrame)
+        let state = State(bytes);
+        ensure(state.encoded(), Refusal::BadFrame)?;
+        Ok(state)
     }
 }
 
 impl<'a> State<&'a mut Bytes> {
     pub fn edit(bytes: &'a mut [u8]) -> Result<State<&'a mut Bytes>, Refusal> {
         let state = State::any(bytes)?;
-        ensure(work_in(state.0).is_some(), Refusal::BadFrame)?;
+        ensure(state.encoded(), Refusal::BadFrame)?;
         Ok(state)
     }
 
@@ -106,18 +112,28 @@ impl<'a> Place<'a> {
 
     /// The logical pages written, in order; the last is held.
     pub fn lpns(self) -> impl Iterator<Item = u16> + 'a {
-        halves(&self.0[5..][..2 * self.count()])
+        halves(&self.0[LPNS..][..2 * self.count()])
     }
 
     /// The programmed pages, in order.
     pub fn ppns(self) -> impl Iterator<Item = u16> + 'a {
-        halves(&self.0[5 + 2 * PLACE_PAGES..][..2 * self.count().saturating_sub(1)])
+        halves(&self.0[PPNS..][..2 * self.count().saturating_sub(1)])
+    }
+
+    /// Which of the pages written are drops, in order.
+    pub fn drops(self) -> impl Iterator<Item = bool> + 'a {
+        self.0[DROPS..][..self.count()].iter().map(|d| *d == 1)
     }
 
     /// The logical page that is held, of a place with pages.
     pub fn held(self) -> u16 {
-        let at = 5 + 2 * (self.count() - 1);
+        let at = LPNS + 2 * (self.count() - 1);
         u16::from_le_bytes([self.0[at], self.0[at + 1]])
+    }
+
+    /// Whether the held page is a drop, of a place with pages.
+    pub fn holds_drop(self) -> bool {
+        self.0[DROPS + self.count() - 1] == 1
     }
 }
 
@@ -126,6 +142,11 @@ fn halves(bytes: &[u8]) -> impl Iterator<Item = u16> + '_ {
 }
 
 impl<B: Deref<Target = Bytes>> State<B> {
+    /// Whether the bytes are a state's: the work under way is of a known kind, and every page of a place is a write or a drop.
+    pub fn encoded(&self) -> bool {
+        work_in(&self.0).is_some() && self.places().all(|p| p.0[DROPS..].iter().fold(0, |all, d| all | d) <= 1)
+    }
+
     pub fn geometry(&self) -> Geometry {
         Geometry::new(half(&self.0, 0), half(&self.0, 2), half(&self.0, 4))
     }
@@ -156,7 +177,7 @@ impl<B: Deref<Target = Bytes>> State<B> {
         self.0[FIRST].into()
     }
 
-    /// Where the bytes encode no state there is none.
+    /// None where the kind is unknown.
     pub fn work(&self) -> Work {
         work_in(&self.0).unwrap_or(Work::Idle)
     }
@@ -230,13 +251,14 @@ impl<B: DerefMut<Target = Bytes>> State<B> {
     }
 
     /// Adds a logical page to a place: it is the held one now, and the one held before was programmed.
-    pub fn add_page(&mut self, i: usize, lpn: u16, programmed: Option<usize>) {
+    pub fn add_page(&mut self, i: usize, lpn: u16, drop: bool, programmed: Option<usize>) {
         let at = PLACE + PLACE_BYTES * i;
         let count = self.place(i).count();
         self.0[at + 4] = count as u8 + 1;
-        self.put(at + 5 + 2 * count, lpn.to_le_bytes());
+        self.put(at + LPNS + 2 * count, lpn.to_le_bytes());
+        self.0[at + DROPS + count] = drop.into();
         if let Some(ppn) = programmed {
-            self.put(at + 5 + 2 * PLACE_PAGES + 2 * (count - 1), (ppn as u16).to_le_bytes());
+            self.put(at + PPNS + 2 * (count - 1), (ppn as u16).to_le_bytes());
         }
     }
 }

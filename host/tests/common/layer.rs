@@ -64,6 +64,7 @@ fn plain_call(store: &mut Store, call: &Call) -> u8 {
         Call::Recover(g) => plain::recover(array, map, hold, state, g.blocks, g.pages, g.logical),
         Call::Begin(id) => plain::begin(array, map, hold, state, *id),
         Call::Write { id, lpn, data } => plain::write(array, map, hold, state, *id, *lpn, data),
+        Call::Drop { id, lpn } => plain::drop_page(array, map, hold, state, *id, *lpn),
         Call::Lone { lpn, data } => plain::lone(array, map, hold, state, *lpn, data),
         Call::Commit(id) => plain::commit(array, map, hold, state, *id),
         Call::Abort(id) => plain::abort(array, map, hold, state, *id),
@@ -73,18 +74,19 @@ fn plain_call(store: &mut Store, call: &Call) -> u8 {
     }
 }
 
-/// The kind of a call, 0 to 9, and its name.
+/// The kind of a call, 0 to 10.
 pub fn kind(call: &Call) -> usize {
     match call {
         Call::Format(_) => 0,
         Call::Recover(_) => 1,
         Call::Begin(_) => 2,
         Call::Write { .. } => 3,
-        Call::Lone { .. } => 4,
-        Call::Commit(_) => 5,
-        Call::Abort(_) => 6,
-        Call::Read(_) => 7,
-        Call::Checkpoint => 8,
-        Call::Reclaim => 9,
+        Call::Drop { .. } => 4,
+        Call::Lone { .. } => 5,
+        Call::Commit(_) => 6,
+        Call::Abort(_) => 7,
+        Call::Read(_) => 8,
+        Call::Checkpoint => 9,
+        Call::Reclaim => 10,
     }
 }

@@ -15,14 +15,14 @@ pub fn say(line: &str) {
     writeln!(std::io::stderr(), "{line}").unwrap();
 }
 
-pub const NAMES: [&str; 10] = ["format", "recover", "begin", "write", "lone", "commit", "abort", "read", "checkpoint", "reclaim"];
+pub const NAMES: [&str; 11] = ["format", "recover", "begin", "write", "drop", "lone", "commit", "abort", "read", "checkpoint", "reclaim"];
 
 /// How often each command gave each answer.
-pub struct Met([[usize; 256]; 10]);
+pub struct Met([[usize; 256]; NAMES.len()]);
 
 impl Met {
     pub fn new() -> Met {
-        Met([[0; 256]; 10])
+        Met([[0; 256]; NAMES.len()])
     }
 
     pub fn note(&mut self, call: &Call, answer: u8) {
@@ -146,7 +146,7 @@ pub fn due_bits(before: &[u8], after: &[u8]) -> Vec<(usize, u8)> {
     due
 }
 
-/// A state's bytes as a cut may leave them: any. Few of these encode a state; every second time they are made to, so that the work under
+/// A state's bytes as a cut may leave them: any. Hardly any encode a state; every second time they are made to, so that the work under
 /// way that they tell of is met too.
 pub fn lost_state(rng: &mut Rng) -> Vec<u8> {
     let mut state = rng.bytes(bokuhira::STATE);
@@ -155,8 +155,14 @@ pub fn lost_state(rng: &mut Rng) -> Vec<u8> {
         if state[275] % 3 == 0 {
             state[276..278].fill(0);
         }
+        drop_bytes(&mut state).for_each(|d| *d &= 1);
     }
     state
+}
+
+/// The bytes of a state that say of each page of each place whether it is a drop.
+pub fn drop_bytes(state: &mut [u8]) -> impl Iterator<Item = &mut u8> {
+    state[278..].chunks_mut(325).flat_map(|place| &mut place[261..])
 }
 
 /// A store formatted by the proved library.

@@ -13,20 +13,21 @@ use Rattle.change.proofs.enter.Statement.{statement}
 use Rattle.change.proofs.enter.Tie as tie
 
 abbrev Inv-loop : tie.InvT-loop
-Inv-loop map₀ n lpns ppns i₀ map i =
+Inv-loop map₀ n lpns ppns drops i₀ map i =
     (i ≤ n)
     × ((n ≤ 64)
     × ((length lpns ≡ 64)
     × ((length ppns ≡ 64)
+    × ((length drops ≡ 64)
     × ((length map ≡ length map₀)
-    × ((all (λ (l : ℕ). ltb l (length map₀)) (take n lpns) ≡ true) × (map ≡ entered map₀ lpns ppns i))))))
+    × ((all (λ (l : ℕ). ltb l (length map₀)) (take n lpns) ≡ true) × (map ≡ entered map₀ lpns ppns drops i)))))))
 
 abbrev μ-loop : tie.MeasureT-loop
-μ-loop map₀ n lpns ppns i₀ map i = n - i
+μ-loop map₀ n lpns ppns drops i₀ map i = n - i
 
 loop-holds : tie.Need-loop-holds Inv-loop μ-loop
 unfolding entered
-loop-holds c = (search needs, (search needs, (search needs, (search needs, (refl, (c .pre .1, refl))))))
+loop-holds c = (search needs, (search needs, (search needs, (search needs, (search needs, (refl, (c .before .pre .1, refl)))))))
 
 mul-lpn : tie.Need-mul-lpn Inv-loop μ-loop
 mul-lpn c = search needs
@@ -37,20 +38,30 @@ array-read-lpn c = search needs
 cast-lpn : tie.Need-cast-lpn Inv-loop μ-loop
 cast-lpn c = search needs
 
+array-read-leads : tie.Need-array-read-leads Inv-loop μ-loop
+array-read-leads c = search needs
+
+mul-leads : tie.Need-mul-leads Inv-loop μ-loop
+mul-leads c = search needs
+
+array-read-leads-2 : tie.Need-array-read-leads-2 Inv-loop μ-loop
+array-read-leads-2 c = search needs
+
+leads-requires : tie.Need-leads-requires Inv-loop μ-loop
+leads-requires c κs = search needs
+
 mul-map : tie.Need-mul-map Inv-loop μ-loop
-mul-map c = search needs
-
-array-read-map : tie.Need-array-read-map Inv-loop μ-loop
-array-read-map c = search needs
-
-mul-map-2 : tie.Need-mul-map-2 Inv-loop μ-loop
-mul-map-2 c =
-    let l = page-in (c .before .before .args .t2) (c .before .before .args .n) _ (c .before .loop .i) (omega arith) (c .before .loop .inv .1 .1 .1 .1 .1 .0) (omega arith) in
+mul-map c =
+    let q = c .before .before in
+    let a = q .before .before .args in
+    let l = page-in (a .t2) (a .n) _ (q .loop .i) (omega arith) (q .loop .inv .1 .1 .1 .1 .1 .1 .0) (omega arith) in
     omega arith
 
 slice-write-map : tie.Need-slice-write-map Inv-loop μ-loop
 slice-write-map c =
-    let l = page-in (c .before .before .args .t2) (c .before .before .args .n) _ (c .before .loop .i) (omega arith) (c .before .loop .inv .1 .1 .1 .1 .1 .0) (omega arith) in
+    let q = c .before .before in
+    let a = q .before .before .args in
+    let l = page-in (a .t2) (a .n) _ (q .loop .i) (omega arith) (q .loop .inv .1 .1 .1 .1 .1 .1 .0) (omega arith) in
     omega arith
 
 add-i : tie.Need-add-i Inv-loop μ-loop
@@ -61,16 +72,19 @@ loop-less c = search needs
 
 loop-again : tie.Need-loop-again Inv-loop μ-loop
 loop-again c =
-    let v = c .before .loop .inv .1 in
-    (search needs, (v .0, (v .1 .0, (v .1 .1 .0, (simp length-set (v .1 .1 .1 .0), (v .1 .1 .1 .1 .0, entered-more _ _ _ _ (c .before .loop .i) (v .1 .1 .1 .1 .1)))))))
+    let q = c .before .before in
+    let v = q .loop .inv .1 in
+    let w = v .1 .1 .1 in
+    (search needs, (v .0, (v .1 .0, (v .1 .1 .0, (w .0, (simp length-set (w .1 .0), (w .1 .1 .0, entered-more _ _ _ _ _ (q .loop .i) _ (c .leads .ensures) (w .1 .1 .1))))))))
 
 same-length : tie.Need-same-length Inv-loop μ-loop
 same-length c = search needs
 
 returns : tie.Need-returns Inv-loop μ-loop
 returns c =
-    let e : c .before .loop .i ≡ c .before .before .args .n = omega arith in
-    c .before .loop .inv .1 .1 .1 .1 .1 .1 ∙ ap (entered (c .before .before .args .map .now) (c .before .before .args .t2) (c .before .before .args .t3)) e
+    let a = c .before .before .before .args in
+    let e : c .before .loop .i ≡ a .n = omega arith in
+    c .before .loop .inv .1 .1 .1 .1 .1 .1 .1 ∙ ap (entered (a .map .now) (a .t2) (a .t3) (a .t4)) e
 
 pub enter-spec : {M : Type 1} → statement M
 enter-spec =
@@ -82,9 +96,11 @@ enter-spec =
     mul-lpn
     array-read-lpn
     cast-lpn
+    array-read-leads
+    mul-leads
+    array-read-leads-2
+    leads-requires
     mul-map
-    array-read-map
-    mul-map-2
     slice-write-map
     add-i
     loop-less

@@ -60,8 +60,10 @@ array-write-ppns c =
 
 enter-requires : tie.Need-enter-requires
 enter-requires c κs =
-    let a = c .before .before .before .before .before .before .before .before .before .before .before .before .before .before .before .before .before .args in
-    let f = frame-in (a .s) (a .array .now) (a .map .now) (a .hold .now) (c .before .before .before .before .before .before .before .before .before .before .before .before .before .before .before .before .before .pre .0 .frame) in
+    let q = c .before .before .before .before .before .before .before .before .before in
+    let o = q .before .before .before .before .before .before .before .before .before in
+    let a = o .args in
+    let f = frame-in (a .s) (a .array .now) (a .map .now) (a .hold .now) (o .pre .0 .frame) in
     let p = place-at (a .s .geometry) (a .s .places) (a .i) (f .places) in
     (count-most (a .s .geometry) _ p, rw (f .map) (pages-in (a .s .geometry) _ p))
 
@@ -72,23 +74,29 @@ free-requires : tie.Need-free-requires
 free-requires c κs = search needs
 
 with-place-requires : tie.Need-with-place-requires
-with-place-requires c κs = c .before .before .before .before .before .before .before .before .before .before .before .before .before .before .before .before .before .before .before .before .before .before .pre .1 .0
+with-place-requires c κs =
+    let q = c .before .before .before .before .before .before .before .before .before .before .before .before in
+    q .before .before .before .before .before .before .before .before .before .before .before .pre .1 .0
 
 same-length : tie.Need-same-length
-same-length c = c .before .before .before .before .before .before .before .before .before .before .array .given
+same-length c = c .before .before .before .before .before .before .before .before .before .before .before .array .given
 
 same-length-2 : tie.Need-same-length-2
 same-length-2 c = search needs
 
 returns : tie.Need-returns
 returns c =
-    let a = c .before .before .before .before .before .before .before .before .before .before .before .before .before .before .before .before .before .before .before .before .before .before .before .args in
+    let e = c .before .before .before .before .before in
+    let h = e .before .before .before .before .before .before .before in
+    let k = h .before .before .before .before in
+    let o = k .before .before .before .before .before .before .before .before in
+    let a = o .args in
     mark-done (a .s) _ (a .array .now) (a .map .now) (a .hold .now) _ _ (a .i) _ (getD (a .s .places) (a .i) noPlace)
-    (c .before .before .before .before .before .before .before .before .before .before .before .before .before .before .before .next-page .ensures)
-    (let k = c .before .before .before .before .before .before .before .before .before .before .before .before .before .before .before .before .before .before .before .before .before .before .before .pre .0 .clean in omega arith)
-    (c .before .before .before .before .before .before .before .before .before .before .before .before .before .before .before .before .before .before .before .before .before .before .before .pre .1 .1)
-    (c .before .before .before .before .before .before .before .before .before .before .before .write-held .ensures)
-    (c .before .before .before .before .before .enter .ensures)
+    (k .next-page .ensures)
+    (let n = o .pre .0 .clean in omega arith)
+    (o .pre .1 .1)
+    (h .write-held .ensures)
+    (e .enter .ensures)
     (rw (c .before .before .with-version .ensures, c .before .free .ensures) at (c .with-place .ensures))
 
 pub mark-spec : {M : Type 1} → statement M

@@ -14,11 +14,17 @@ returns c = record { none = λ e. refl; held = λ h. absurd (omega arith) }
 sub-data-spare : tie.Need-sub-data-spare
 sub-data-spare c = search needs
 
+array-read-data-spare : tie.Need-array-read-data-spare
+array-read-data-spare c = search needs
+
+sub-data-spare-2 : tie.Need-sub-data-spare-2
+sub-data-spare-2 c = search needs
+
 mul-data-spare : tie.Need-mul-data-spare
 mul-data-spare c = search needs
 
-array-read-data-spare : tie.Need-array-read-data-spare
-array-read-data-spare c = search needs
+array-read-data-spare-2 : tie.Need-array-read-data-spare-2
+array-read-data-spare-2 c = search needs
 
 data-spare-requires : tie.Need-data-spare-requires
 data-spare-requires c κs = search needs
@@ -39,8 +45,10 @@ write-held-spec =
     cast-n
     returns
     sub-data-spare
-    mul-data-spare
     array-read-data-spare
+    sub-data-spare-2
+    mul-data-spare
+    array-read-data-spare-2
     data-spare-requires
     program-held-requires
     same-length

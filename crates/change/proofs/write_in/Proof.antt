@@ -55,7 +55,7 @@ same-length-2 c = search needs
 returns : tie.Need-returns
 returns c =
     let a = c .before .before .before .before .before .before .before .before .before .before .before .before .before .before .before .before .before .before .before .args in
-    write-done (a .s) _ (a .array .now) (a .map .now) (a .hold .now) _ _ (a .i) (a .lpn) (a .«data» .now) _ _ _
+    write-done (a .s) _ (a .array .now) (a .map .now) (a .hold .now) _ _ (a .i) (a .lpn) (a .drop) (a .«data» .now) _ _ _
     (c .before .before .before .before .before .before .before .before .before .before .before .next-page .ensures)
     (λ h. let k = c .before .before .before .before .before .before .before .before .before .before .before .before .before .before .before .before .before .before .before .pre .clean h in omega arith)
     (c .before .before .before .before .before .before .before .before .write-held .ensures)

@@ -1,6 +1,6 @@
--- `encoding::encodes` meets its contract. Assumes nothing.
+-- `encoding::encodes` meets its contract: each return by the tests on its path. Assumes nothing.
 use borrow.Author.Needs.{needs}
-use borrow.Author.Tests.{eq-eqb, ne-eqb}
+use borrow.Author.Tests.{eq-eqb, ne-eqb, not-true, not-false}
 use Rattle.encoding.specs.Encoding.{encodes}
 use Rattle.encoding.proofs.encodes.Statement.{statement}
 use Rattle.encoding.proofs.encodes.Tie as tie
@@ -20,9 +20,23 @@ work-coded-requires c κs = search needs
 
 returns-2 : tie.Need-returns-2
 unfolding encodes
-returns-2 c = rw (eq-eqb _ _ (c .before .before .before .if1 .left), ← c .before .word16 .ensures) (c .work-coded .ensures)
+returns-2 c = rw (eq-eqb _ _ (c .before .before .before .before .if1 .left), ← c .before .before .word16 .ensures, ← c .before .work-coded .ensures, not-true (c .before .work-coded .result) (c .if2 .taken))
+
+places-coded-requires : tie.Need-places-coded-requires
+places-coded-requires c κs = search needs
+
+returns-3 : tie.Need-returns-3
+unfolding encodes
+returns-3 c = rw (eq-eqb _ _ (c .before .before .before .before .before .if1 .left), ← c .before .before .before .word16 .ensures, ← c .before .before .work-coded .ensures, not-false (c .before .before .work-coded .result) (c .before .if2 .left)) (c .places-coded .ensures)
 
 pub encodes-spec : {M : Type 1} → statement M
 encodes-spec =
     tie.close
-    (tie.spec returns shared-slice-read-work-coded word16-requires work-coded-requires returns-2)
+    (tie.spec
+    returns
+    shared-slice-read-work-coded
+    word16-requires
+    work-coded-requires
+    returns-2
+    places-coded-requires
+    returns-3)

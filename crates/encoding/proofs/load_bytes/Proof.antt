@@ -1,11 +1,11 @@
 -- `encoding::load_bytes` meets its contract. The loop's invariant: the first i bytes stand in the list. Assumes nothing.
 use mathlib.Core.Path.{_≡_, refl}
-use Prim.Native.Nat.{_+_, _-_, _≤_}
+use Prim.Native.Nat.{ℕ, _+_, _-_, _≤_}
 use native.Mathlib.Omega.{arith}
 use lib.ListN.{length, take, length-set}
 use borrow.Author.Needs.{needs}
 use Rattle.model.specs.Lists.{part}
-use Rattle.encoding.proofs.Taken.{bytes-more, bytes-all}
+use Rattle.encoding.proofs.Taken.{bytes-more, filled}
 use Rattle.encoding.proofs.load_bytes.Statement.{statement}
 use Rattle.encoding.proofs.load_bytes.Tie as tie
 
@@ -45,7 +45,7 @@ same-length : tie.Need-same-length Inv-loop μ-loop
 same-length c = search needs
 
 returns : tie.Need-returns Inv-loop μ-loop
-returns c = bytes-all (c .before .before .args .from .now) (c .before .loop .list) _ (c .before .loop .i) _ (omega arith) (c .before .loop .inv .1 .1 .0) (c .before .loop .inv .1 .1 .1)
+returns c = filled (λ (j : ℕ). part (c .before .before .args .at) j (c .before .before .args .from .now)) (c .before .loop .list) (c .before .loop .i) _ (omega arith) (c .before .loop .inv .1 .1 .0) (c .before .loop .inv .1 .1 .1)
 
 pub load-bytes-spec : {M : Type 1} → statement M
 load-bytes-spec =

@@ -1,12 +1,12 @@
 -- `encoding::load_halves` meets its contract. The loop's invariant: the first i numbers stand in the list. Assumes nothing.
 use mathlib.Core.Path.{_≡_, refl}
-use Prim.Native.Nat.{_+_, _-_, _*_, _≤_}
+use Prim.Native.Nat.{ℕ, _+_, _-_, _*_, _≤_}
 use native.Mathlib.Omega.{arith}
 use lib.ListN.{length, take, length-set}
 use borrow.Author.Needs.{needs}
 use Rattle.model.specs.Lists.{part}
 use Rattle.model.specs.Bytes.{words}
-use Rattle.encoding.proofs.Taken.{halves-more, halves-all}
+use Rattle.encoding.proofs.Taken.{halves-more, filled}
 use Rattle.encoding.proofs.load_halves.Statement.{statement}
 use Rattle.encoding.proofs.load_halves.Tie as tie
 
@@ -52,7 +52,9 @@ same-length : tie.Need-same-length Inv-loop μ-loop
 same-length c = search needs
 
 returns : tie.Need-returns Inv-loop μ-loop
-returns c = halves-all (c .before .before .before .before .args .from .now) (c .before .loop .list) _ (c .before .loop .i) _ (omega arith) (c .before .loop .inv .1 .1 .0) (c .before .loop .inv .1 .1 .1)
+returns c =
+    let g = c .before .before .before .before .args in
+    filled (λ (j : ℕ). words (part (g .at) (2 * j) (g .from .now))) (c .before .loop .list) (c .before .loop .i) _ (omega arith) (c .before .loop .inv .1 .1 .0) (c .before .loop .inv .1 .1 .1)
 
 pub load-halves-spec : {M : Type 1} → statement M
 load-halves-spec =

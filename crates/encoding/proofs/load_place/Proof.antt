@@ -28,17 +28,28 @@ slice-aggregate-load-halves-2 c = search needs
 load-halves-requires-2 : tie.Need-load-halves-requires-2
 load-halves-requires-2 c κs = search needs
 
+add-load-drops : tie.Need-add-load-drops
+add-load-drops c = search needs
+
+slice-aggregate-load-drops : tie.Need-slice-aggregate-load-drops
+slice-aggregate-load-drops c = search needs
+
+load-drops-requires : tie.Need-load-drops-requires
+load-drops-requires c κs = search needs
+
 word32-requires : tie.Need-word32-requires
 word32-requires c κs = search needs
 
-add-t6 : tie.Need-add-t6
-add-t6 c = search needs
+add-t7 : tie.Need-add-t7
+add-t7 c = search needs
 
-shared-slice-read-t14 : tie.Need-shared-slice-read-t14
-shared-slice-read-t14 c = search needs
+shared-slice-read-t17 : tie.Need-shared-slice-read-t17
+shared-slice-read-t17 c = search needs
 
 returns : tie.Need-returns
-returns c = place-read (c .before .before .before .before .before .before .before .before .before .args .from .now) (c .before .before .before .before .before .before .before .before .before .args .i) _ _ _ (c .before .word32 .ensures) (c .before .before .before .before .before .before .load-halves .ensures) (c .before .before .before .load-halves2 .ensures)
+returns c =
+    let g = c .before .before .before .before .before .before .before .before .before .before .before .before .args in
+    place-read (g .from .now) (g .i) _ _ _ _ (c .before .word32 .ensures) (c .before .before .before .before .before .before .before .before .before .load-halves .ensures) (c .before .before .before .before .before .before .load-halves2 .ensures) (c .before .before .before .load-drops .ensures)
 
 pub load-place-spec : {M : Type 1} → statement M
 load-place-spec =
@@ -52,7 +63,10 @@ load-place-spec =
     add-load-halves-2
     slice-aggregate-load-halves-2
     load-halves-requires-2
+    add-load-drops
+    slice-aggregate-load-drops
+    load-drops-requires
     word32-requires
-    add-t6
-    shared-slice-read-t14
+    add-t7
+    shared-slice-read-t17
     returns)

@@ -39,18 +39,28 @@ put-halves-requires-2 c κs =
     let l : length (c .before .before .before .before .before .before .before .before .before .before .before .before .before .before .before .before .args .t3 .ppns) ≡ 64 = search needs in
     omega (arith, simp length-set at (c .before .before .before .before .before .before .put-halves .ensures .same), c .before .before .before .before .before .before .before .before .before .before .before .before .before .put-word .ensures .same)
 
+add-put-drops : tie.Need-add-put-drops
+add-put-drops c = search needs
+
+put-drops-requires : tie.Need-put-drops-requires
+put-drops-requires c κs =
+    let l : length (c .before .before .before .before .before .before .before .before .before .before .before .before .before .before .before .before .before .before .before .before .before .before .before .args .t3 .drops) ≡ 64 = search needs in
+    omega (arith, c .before .before .before .before .before .before .put-halves2 .ensures .same, simp length-set at (c .before .before .before .before .before .before .before .before .before .before .before .before .before .put-halves .ensures .same), c .before .before .before .before .before .before .before .before .before .before .before .before .before .before .before .before .before .before .before .before .put-word .ensures .same)
+
 same-length : tie.Need-same-length
-same-length c = c .before .before .put-halves2 .ensures .same ∙ c .before .before .before .before .before .before .before .before .before .put-halves .ensures .same ∙ simp length-set (c .before .before .before .before .before .before .before .before .before .before .before .before .before .before .before .before .put-word .ensures .same)
+same-length c = c .before .before .put-drops .ensures .same ∙ c .before .before .before .before .before .before .before .before .before .put-halves2 .ensures .same ∙ c .before .before .before .before .before .before .before .before .before .before .before .before .before .before .before .before .put-halves .ensures .same ∙ simp length-set (c .before .before .before .before .before .before .before .before .before .before .before .before .before .before .before .before .before .before .before .before .before .before .before .put-word .ensures .same)
 
 returns : tie.Need-returns
 unfolding placeBytes
 returns c =
-    let g = c .before .before .before .before .before .before .before .before .before .before .before .before .before .before .before .before .before .before .before .args in
+    let g = c .before .before .before .before .before .before .before .before .before .before .before .before .before .before .before .before .before .before .before .before .before .before .before .before .before .before .args in
     let k : length (g .t3 .lpns) ≡ 64 = search needs in
     let m : length (g .t3 .ppns) ≡ 64 = search needs in
-    let one = laid-one (c .before .before .before .before .before .before .before .before .before .before .before .before .before .before .before .before .put-word .ensures) _ (g .t3 .count) refl (omega arith) in
-    let two = laid-join one (laid-size 128 (c .before .before .before .before .before .before .before .before .before .put-halves .ensures) (omega arith)) refl in
-    laid-join two (laid-size 128 (c .before .before .put-halves2 .ensures) (omega arith)) refl
+    let d : length (g .t3 .drops) ≡ 64 = search needs in
+    let one = laid-one (c .before .before .before .before .before .before .before .before .before .before .before .before .before .before .before .before .before .before .before .before .before .before .before .put-word .ensures) _ (g .t3 .count) refl (omega arith) in
+    let two = laid-join one (laid-size 128 (c .before .before .before .before .before .before .before .before .before .before .before .before .before .before .before .before .put-halves .ensures) (omega arith)) refl in
+    let three = laid-join two (laid-size 128 (c .before .before .before .before .before .before .before .before .before .put-halves2 .ensures) (omega arith)) refl in
+    laid-join three (laid-size 64 (c .before .before .put-drops .ensures) d) refl
 
 pub put-place-spec : {M : Type 1} → statement M
 put-place-spec =
@@ -65,5 +75,7 @@ put-place-spec =
     put-halves-requires
     add-put-halves-2
     put-halves-requires-2
+    add-put-drops
+    put-drops-requires
     same-length
     returns)

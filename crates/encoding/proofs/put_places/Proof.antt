@@ -11,7 +11,7 @@ use Rattle.encoding.proofs.put_places.Tie as tie
 
 abbrev Inv-loop : tie.InvT-loop
 Inv-loop to₀ places i₀ to i =
-    (i ≤ 8) × ((length to₀ ≡ 2366) × ((length places ≡ 8) × ((length to ≡ 2366) × Laid to₀ 278 (261 * i) (each placeBytes (take i places)) to)))
+    (i ≤ 8) × ((length to₀ ≡ 2878) × ((length places ≡ 8) × ((length to ≡ 2878) × Laid to₀ 278 (325 * i) (each placeBytes (take i places)) to)))
 
 abbrev μ-loop : tie.MeasureT-loop
 μ-loop to₀ places i₀ to i = 8 - i
@@ -38,13 +38,13 @@ loop-again : tie.Need-loop-again Inv-loop μ-loop
 loop-again c =
     let l = c .before .before .before .before .before .before .loop in
     let d = c .before .before .put-place .ensures in
-    (search needs, (search needs, (search needs, (d .same ∙ l .inv .1 .1 .1 .0, each-next placeBytes 261 (c .before .before .before .before .before .before .before .before .args .t2) _ _ (l .inv .1 .1 .1 .1) (omega arith) d))))
+    (search needs, (search needs, (search needs, (d .same ∙ l .inv .1 .1 .1 .0, each-next placeBytes 325 (c .before .before .before .before .before .before .before .before .args .t2) _ _ (l .inv .1 .1 .1 .1) (omega arith) d))))
 
 same-length : tie.Need-same-length Inv-loop μ-loop
 same-length c = search needs
 
 returns : tie.Need-returns Inv-loop μ-loop
-returns c = each-end placeBytes 261 8 (c .before .before .before .args .t2) (c .before .loop .inv .1 .1 .1 .1) (omega arith) (c .before .loop .inv .1 .1 .0)
+returns c = each-end placeBytes 325 8 (c .before .before .before .args .t2) (c .before .loop .inv .1 .1 .1 .1) (omega arith) (c .before .loop .inv .1 .1 .0)
 
 pub put-places-spec : {M : Type 1} → statement M
 put-places-spec =

@@ -14,6 +14,9 @@ mul-q c = search needs
 element-write-q : tie.Need-element-write-q
 element-write-q c = search needs
 
+element-write-q-2 : tie.Need-element-write-q-2
+element-write-q-2 c = search needs
+
 add-q : tie.Need-add-q
 add-q c = search needs
 
@@ -27,8 +30,8 @@ sub-q c = search needs
 mul-q-2 : tie.Need-mul-q-2
 mul-q-2 c = search needs
 
-element-write-q-2 : tie.Need-element-write-q-2
-element-write-q-2 c = search needs
+element-write-q-3 : tie.Need-element-write-q-3
+element-write-q-3 c = search needs
 
 returns-2 : tie.Need-returns-2
 unfolding written
@@ -37,4 +40,4 @@ returns-2 c = simp (ne-eqb _ _ (c .if1 .left))
 pub written-spec : {M : Type 1} → statement M
 written-spec =
     tie.close
-    (tie.spec cast-n mul-q element-write-q add-q returns sub-q mul-q-2 element-write-q-2 returns-2)
+    (tie.spec cast-n mul-q element-write-q element-write-q-2 add-q returns sub-q mul-q-2 element-write-q-3 returns-2)

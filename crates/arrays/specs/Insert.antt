@@ -1,12 +1,10 @@
--- One element put into a list, somewhere: what it does to the length, to tests and to what a test picks out. The log grows so: what is programmed
--- next is scanned last where one block after the other is filled, and somewhere else where two are.
+-- One element put into a list, somewhere: what it does to the length, and to what a test picks out.
 use mathlib.Core.Path.{_≡_, refl, ap}
 use mathlib.Core.Bool.{Bool, true, false}
 use Prim.Native.Nat.{suc}
 use mathlib.Core.List.{List, [], _∷_, _++_}
 use lib.ListN.{length}
-use Rattle.model.specs.Lists.{all, keep, those}
-use Rattle.arrays.specs.Tests.{all-head, all-tail, all-cons}
+use Rattle.model.specs.Lists.{keep, those}
 
 -- the second list is the first with e put in
 pub data Insert {A : Type 0} (e : A) : List A → List A → Type 0 where
@@ -21,15 +19,6 @@ module _ {A : Type 0} (e : A) where
   pub insert-length : {xs ys : List A} → Insert e xs ys → length ys ≡ suc (length xs)
   insert-length (here xs) = refl
   insert-length (there x i) = ap suc (insert-length i)
-
-  pub insert-append : {xs ys : List A} (zs : List A) → Insert e xs ys → Insert e (xs ++ zs) (ys ++ zs)
-  insert-append zs (here xs) = here (xs ++ zs)
-  insert-append zs (there x i) = there x (insert-append zs i)
-
-  -- a test of every element
-  pub all-insert : (p : A → Bool) {xs ys : List A} → Insert e xs ys → p e ≡ true → all p xs ≡ true → all p ys ≡ true
-  all-insert p (here xs) h k = all-cons p e xs h k
-  all-insert p (there {xs = xs} {ys = ys} x i) h k = all-cons p x ys (all-head p x xs k) (all-insert p i h (all-tail p x xs k))
 
   -- what a test picks out: e among them if it passes
   pub those-in : (p : A → Bool) {xs ys : List A} → Insert e xs ys → p e ≡ true → Insert e (those p xs) (those p ys)

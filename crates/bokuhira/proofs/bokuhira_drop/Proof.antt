@@ -1,0 +1,55 @@
+-- `bokuhira::bokuhira_drop` meets its contract: of a state, by what the device replies. Assumes nothing.
+use borrow.Author.Needs.{needs}
+use Rattle.model.specs.Commands.{dropPage}
+use Rattle.bokuhira.proofs.Calls.{uncoded, coded, coded-long, unmet, met}
+use Rattle.bokuhira.proofs.bokuhira_drop.Statement.{statement}
+use Rattle.bokuhira.proofs.bokuhira_drop.Tie as tie
+
+encodes-requires : tie.Need-encodes-requires
+encodes-requires c κs = search needs
+
+same-length : tie.Need-same-length
+same-length c = search needs
+
+returns : tie.Need-returns
+returns c =
+    let g = c .before .before .before .before .before .before .before .args in
+    unmet (dropPage (g .id) (g .lpn)) (g .array .now) (g .map .now) (g .hold .now) (g .state .now) (uncoded _ (c .before .encodes .result) (c .before .encodes .ensures) (c .if1 .taken))
+
+device-requires : tie.Need-device-requires
+device-requires c κs = coded _ (c .before .before .encodes .result) (c .before .before .encodes .ensures) (c .before .if1 .left)
+
+drop-requires : tie.Need-drop-requires
+drop-requires c κs = search needs
+
+finish-requires : tie.Need-finish-requires
+finish-requires c κs = coded-long _ (coded _ (c .before .before .before .before .before .before .before .before .before .before .before .encodes .result) (c .before .before .before .before .before .before .before .before .before .before .before .encodes .ensures) (c .before .before .before .before .before .before .before .before .before .before .if1 .left))
+
+same-length-2 : tie.Need-same-length-2
+same-length-2 c = search needs
+
+same-length-3 : tie.Need-same-length-3
+same-length-3 c = search needs
+
+same-length-4 : tie.Need-same-length-4
+same-length-4 c = search needs
+
+returns-2 : tie.Need-returns-2
+returns-2 c =
+    let g = c .before .before .before .before .before .before .before .before .before .before .before .before .before .before .before .before .before .before .before .before .args in
+    met (dropPage (g .id) (g .lpn)) (g .array .now) (g .map .now) (g .hold .now) (g .state .now) _ _ _ _ _ _ _ _ (coded _ (c .before .before .before .before .before .before .before .before .before .before .before .before .before .before .encodes .result) (c .before .before .before .before .before .before .before .before .before .before .before .before .before .before .encodes .ensures) (c .before .before .before .before .before .before .before .before .before .before .before .before .before .if1 .left)) (c .before .before .before .before .before .before .before .before .before .before .before .device .ensures) (c .before .before .before .before .before .before .before .before .drop .ensures) (c .before .before .finish .ensures)
+
+pub bokuhira-drop-spec : {M : Type 1} → statement M
+bokuhira-drop-spec =
+    tie.close
+    (tie.spec
+    encodes-requires
+    same-length
+    returns
+    device-requires
+    drop-requires
+    finish-requires
+    same-length-2
+    same-length-3
+    same-length-4
+    returns-2)
