@@ -7,7 +7,7 @@ use Prim.Native.Nat.{ℕ, zero, suc, _+_, _-_, _*_, _/_, _%_, _≤_, _<_}
 use native.Mathlib.Nat.{mul-suc}
 use native.Mathlib.Omega.{arith}
 use lib.ListN.{length, take, drop, getD}
-use lib.Dec.{eqb, ltb}
+use lib.Dec.{eqb}
 use lib.Seq.{take-add, drop-drop, drop-cons}
 use borrow.Author.Tests.{eqb-true, ltb-true}
 use Rattle.model.specs.Lists.{all, part}
@@ -16,7 +16,7 @@ use Rattle.model.specs.declared.Work.{Work}
 use Rattle.arrays.specs.Tests.{Is, eqb-cases, and-left, and-right}
 use Rattle.arrays.specs.Bytelist.{Bytes, bytes-take, bytes-drop}
 use Rattle.arrays.specs.Splice.{length-part, part-all}
-use Rattle.encoding.specs.Encoding.{zonesFrom, workFrom, dropsFrom, placeFrom, placesIn, stateFrom, workCoded, dropsCoded, placesCoded, encodes, each, zoneBytes, kindOf, strideOf, dropByte, dropBytes, placeBytes, bytesOf}
+use Rattle.encoding.specs.Encoding.{zonesFrom, workFrom, dropsFrom, placeFrom, placesIn, stateFrom, workCoded, dropCoded, dropsCoded, placesCoded, encodes, each, zoneBytes, kindOf, strideOf, dropByte, dropBytes, placeBytes, bytesOf}
 use Rattle.encoding.specs.Each.{each-append, each-one}
 
 -- ---- the n bytes of xs from a on
@@ -43,15 +43,18 @@ halves-words n (x ∷ y ∷ ys) h b =
     rw (e, f, halves-words (n - 1) ys (omega arith) (b .1 .1))
 
 -- ---- drops that are 0 or 1
-drop-back : (x : ℕ) → x < 2 → dropByte (eqb x 1) ≡ x
-drop-back zero h = refl
-drop-back (suc zero) h = refl
-drop-back (suc (suc x)) h = absurd (omega arith)
+drop-back : (x : ℕ) → dropCoded x ≡ true → dropByte (eqb x 1) ≡ x
+drop-back x e = go x (ltb-true x 2 e)
+  where
+    go : (x : ℕ) → x < 2 → dropByte (eqb x 1) ≡ x
+    go zero h = refl
+    go (suc zero) h = refl
+    go (suc (suc x)) h = absurd (omega arith)
 
 drops-back : (ys : List ℕ) → dropsCoded ys ≡ true → dropBytes (dropsFrom ys) ≡ ys
 unfolding dropsCoded dropBytes dropsFrom all
 drops-back [] e = refl
-drops-back (y ∷ ys) e = rw (drop-back y (ltb-true y 2 (and-left (ltb y 2) _ e)), drops-back ys (and-right (ltb y 2) _ e))
+drops-back (y ∷ ys) e = rw (drop-back y (and-left (dropCoded y) _ e), drops-back ys (and-right (dropCoded y) _ e))
 
 place-coded : (xs : List ℕ) (n i : ℕ) → i < n → placesCoded xs n ≡ true → dropsCoded (part (278 + 325 * i + 261) 64 xs) ≡ true
 unfolding placesCoded

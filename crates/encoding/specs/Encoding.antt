@@ -69,9 +69,12 @@ stateFrom xs =
 unfoldable pub workCoded : ℕ → ℕ → Bool
 workCoded kind stride = eqb kind 1 || (eqb kind 2 || (eqb stride 0 && (eqb kind 0 || eqb kind 3)))
 
--- drops of which every one is 0 or 1
+-- bytes that say whether pages drop: 0 or 1, each of them
+abbrev pub dropCoded : ℕ → Bool
+dropCoded x = ltb x 2
+
 unfoldable pub dropsCoded : List ℕ → Bool
-dropsCoded xs = all (λ (x : ℕ). ltb x 2) xs
+dropsCoded xs = all dropCoded xs
 
 -- those of the first n places
 unfoldable pub placesCoded : List ℕ → ℕ → Bool
