@@ -106,7 +106,7 @@ extern "C" {
 #define BOKUHIRA_ARRAY_MAX BOKUHIRA_ARRAY(BOKUHIRA_BLOCKS_MAX, BOKUHIRA_PAGES_MAX)
 
 /*
- * Stack for a call. Recover takes less than 56 KiB, every other function less than 24 KiB; this is 8 KiB more. It is true of the
+ * Stack for a call. Recover takes less than 58 KiB, every other function less than 26 KiB; this is 6 KiB more. It is true of the
  * archive as the kit compiles it for x86-64: measured (docs/BENCHMARKS.md), and added up from the frames, since nothing in it calls
  * itself or through a pointer. The caller's own frames, and interrupts on the same stack, come on top.
  */

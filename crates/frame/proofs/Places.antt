@@ -1,17 +1,21 @@
--- A place in range, by its count and its identifier: which tests are left. Assumes nothing.
-use mathlib.Core.Path.{_≡_, refl}
+-- A place in range, by its count and its identifier: which tests are left; and that no later one shares its identifier. Assumes nothing.
+use mathlib.Core.Path.{_≡_, refl, ap}
 use mathlib.Core.Bool.{Bool, true, false, not, _&&_, _||_}
-use mathlib.Core.List.{List}
-use Prim.Native.Nat.{ℕ, _-_, _≤_, _<_}
+use mathlib.Core.List.{List, [], _∷_}
+use Prim.Native.Nat.{ℕ, zero, suc, _+_, _-_, _≤_, _<_}
 use native.Mathlib.Omega.{arith}
 use lib.Dec.{eqb, ltb}
-use lib.ListN.{take}
+use lib.ListN.{length, getD, take, drop}
 use borrow.Author.Tests.{le-leb, lt-leb, eq-eqb, ne-eqb}
 use Rattle.model.specs.Lists.{all}
 use Rattle.model.specs.Geometry.{dataPage}
-use Rattle.model.specs.Frame.{badId, placeOk, alone}
+use Rattle.model.specs.Zones.{hasId}
+use Rattle.model.specs.Frame.{noPlace, badId, placeOk, alone}
 use Rattle.model.specs.declared.Geometry.{Geometry}
 use Rattle.model.specs.declared.Place.{Place}
+use Rattle.places.specs.Ids.{idsOf}
+use Rattle.places.proofs.Ids.{ids-at}
+use Rattle.frame.specs.Ids.{idAlone}
 
 -- a place with those after it
 abbrev pub placeAmong : Geometry → Place → List Place → Bool
@@ -46,3 +50,19 @@ module _ (g : Geometry) (p : Place) where
             → placeOk g p ≡ (all (λ (l : ℕ). ltb l (g .logical)) (take (p .count) (p .lpns)) && all (dataPage g) (take (p .count - 1) (p .ppns)))
         unfolding placeOk badId
         place-written h = rw (le-leb (p .count) 64 few, ne-eqb (p .id) 0 h, ne-eqb (p .id) 4294967295 named)
+
+-- ---- the identifiers of the places
+drop-ids : (n : ℕ) (ps : List Place) → drop n (idsOf ps) ≡ idsOf (drop n ps)
+unfolding idsOf
+drop-ids zero ps = refl
+drop-ids (suc n) [] = refl
+drop-ids (suc n) (p ∷ ps) = drop-ids n ps
+
+all-ids : (id : ℕ) (ps : List Place) → all (λ (x : ℕ). not (eqb x id)) (idsOf ps) ≡ all (λ (q : Place). not (hasId id q)) ps
+unfolding all idsOf
+all-ids id [] = refl
+all-ids id (p ∷ ps) = ap (λ (t : Bool). not (eqb (p .id) id) && t) (all-ids id ps)
+
+pub alone-ids : (ps : List Place) (i : ℕ) → i < length ps → idAlone (getD (idsOf ps) i 0) (drop (i + 1) (idsOf ps)) ≡ alone (getD ps i noPlace) (drop (i + 1) ps)
+unfolding idAlone alone
+alone-ids ps i h = rw (ids-at ps i noPlace h, drop-ids (i + 1) ps, all-ids (getD ps i noPlace .id) (drop (i + 1) ps))

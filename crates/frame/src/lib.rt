@@ -7,8 +7,9 @@ ghost use lib.Dec.{eqb, ltb};
 ghost use Rattle.model.specs.Answers.{number};
 ghost use Rattle.model.specs.Lists.{all};
 ghost use Rattle.model.specs.Geometry.{geometryOk, lengthsOk, dataPage};
-ghost use Rattle.model.specs.Frame.{noPlace, placeOk, alone, placesOk, formatStrideOk, checkpointStrideOk, workOk, frameOk, isIdle, gate};
+ghost use Rattle.model.specs.Frame.{placeOk, placesOk, formatStrideOk, checkpointStrideOk, workOk, frameOk, isIdle, gate};
 ghost use Rattle.frame.specs.Lent.{Sized};
+ghost use Rattle.frame.specs.Ids.{idAlone};
 use model::Answer;
 use model::Geometry;
 use model::Place;
@@ -83,19 +84,18 @@ fn place_ok(g: Geometry, p: Place) -> bool
     ppns_ok(g, ppns, n - 1)
 }
 
-/// Whether no later place shares the identifier of place i, or it is free.
-fn is_alone(places: [Place; State::PLACES], i: usize) -> bool
+/// Whether no later place has the identifier of place i, or that is free.
+fn is_alone(ids: [u32; State::PLACES], i: usize) -> bool
     requires { ⌜ i < 8 ⌝ }
-    ensures { λ r. ⌜ r ≡ alone (getD places i noPlace) (drop (i + 1) places) ⌝ }
+    ensures { λ r. ⌜ r ≡ idAlone (getD ids i 0) (drop (i + 1) ids) ⌝ }
 {
-    let p = places[i];
-    if p.id == 0 {
+    let id = ids[i];
+    if id == 0 {
         return true;
     }
     let mut j = i + 1;
     while j < State::PLACES {
-        let q = places[j];
-        if q.id == p.id {
+        if ids[j] == id {
             return false;
         }
         j += 1;
@@ -103,18 +103,19 @@ fn is_alone(places: [Place; State::PLACES], i: usize) -> bool
     true
 }
 
-/// Whether the places are in range, and no two share an identifier.
-fn places_ok(g: Geometry, places: [Place; State::PLACES]) -> bool
+/// Whether the places are in range, and no two share an identifier. The identifiers are taken out once, so that no look copies the places.
+fn places_ok(g: Geometry, ps: [Place; State::PLACES]) -> bool
     requires { ⌜ geometryOk g ≡ true ⌝ }
-    ensures { λ r. ⌜ r ≡ placesOk g places ⌝ }
+    ensures { λ r. ⌜ r ≡ placesOk g ps ⌝ }
 {
+    let ids = places::ids_of(ps);
     let mut i: usize = 0;
     while i < State::PLACES {
-        let p = places[i];
+        let p = ps[i];
         if !place_ok(g, p) {
             return false;
         }
-        if !is_alone(places, i) {
+        if !is_alone(ids, i) {
             return false;
         }
         i += 1;

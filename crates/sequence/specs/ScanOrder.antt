@@ -40,7 +40,7 @@ use Rattle.sequence.specs.Append.{Appends}
 use Rattle.sequence.specs.Begin.{Begins, begin-view}
 use Rattle.sequence.specs.Abort.{Aborts, abort-view}
 use Rattle.sequence.specs.Lone.{Lones, lone-view, lone-appends}
-use Rattle.sequence.specs.Write.{WritesTo, write-view, drop-view, gone-small, page-appends}
+use Rattle.sequence.specs.Write.{WritesTo, write-view, drop-view, gone-small, write-bytes, page-appends}
 use Rattle.sequence.specs.Commit.{Commits, forgets, marks, commit-view, mark-appends}
 use Rattle.sequence.specs.Reclaiming.{Reclaims, copies, frees, reclaim-view, copy-appends, free-scan}
 use Rattle.sequence.specs.Checkpointing.{stride-scan}
@@ -157,7 +157,7 @@ module _ (w : World) (b : Book) (h : Live w b) where
 
   write-orders : (id lpn : ℕ) (d : List ℕ) → fits (write id lpn d) ≡ true → Orders (write id lpn d)
   unfolding plan fits
-  write-orders id lpn d f = add-orders (write id lpn d) id lpn false d (bytes-true d (and-right (ltb lpn 65536) (bytes d) (and-right (ltb id 4294967296) _ f))) (write-view id lpn d w)
+  write-orders id lpn d f = add-orders (write id lpn d) id lpn false d (write-bytes id lpn d f) (write-view id lpn d w)
 
   drop-orders : (id lpn : ℕ) → Orders (dropPage id lpn)
   unfolding plan

@@ -196,7 +196,7 @@ fn stack(table: &mut Table) {
 
 fn print_stack(table: &mut Table, what: &str, deepest: usize) {
     println!("| {what} | {deepest} |");
-    let limit = if what == "recover" { 56 } else { 24 } * 1024;
+    let limit = if what == "recover" { 58 } else { 26 } * 1024;
     table.hold(deepest < limit, &format!("{what} uses {deepest} bytes of stack, limit {limit}"));
 }
 
