@@ -1,6 +1,6 @@
-//! Cuts bit by bit: the last program of a commit and of a lone write, and the program of a held drop, with every single due bit left out in
-//! turn, and every prefix of an erase. After each, both layers recover with any map, hold and state, and every logical page is read; and the page that was cut is torn
-//! by what its bits count.
+//! Cuts bit by bit: the last program of a commit and of a lone write, and the program of a held drop, with every single due bit left out
+//! in turn, and every prefix of an erase. After each, both layers recover with any map, hold and state, and every logical page is read;
+//! and the page that was cut is torn by what its bits count.
 mod common;
 
 use bokuhira::{Answer, Call, Class, Geometry, Store, DATA, PAGE};

@@ -1,4 +1,4 @@
--- The commands of an open change: begin, write, lone write, commit, abort, read. Each says what it plans on what it is handed.
+-- The commands of an open change: begin, write, drop, lone write, commit, abort, read. Each says what it plans on what it is handed.
 use Prim.Native.Nat.{ℕ, zero, suc, _+_, _-_, _*_}
 use mathlib.Core.Bool.{Bool, true, false, not, cond, _&&_, _||_}
 use mathlib.Core.List.{List, []}
