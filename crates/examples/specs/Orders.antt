@@ -97,16 +97,6 @@ module _ (w : World) (pass : gate false w ≡ 0) where
   unfolding plan planWrite addPlan
   write-5 id lpn d l h = rw (pass, l, h) refl
 
-  -- a drop goes where a write does: its page is held, 512 bytes 0xFF, and counted
-  module _ (id lpn : ℕ) (in-range : leb (w .state .geometry .logical) lpn ≡ false) (open-at : leb 8 (placeOf (w .state .places) id) ≡ false) where
-    abbrev dropping : Place
-    dropping = getD (w .state .places) (placeOf (w .state .places) id) noPlace
-
-    pub drop-done : dropping .count < 41 → (not (eqb (dropping .count) 0) && zoneShort w) ≡ false
-        → plan (dropPage id lpn) w ≡ writePlan (placeOf (w .state .places) id) dropping lpn true gone w
-    unfolding plan planDrop addPlan
-    drop-done n z = rw (pass, in-range, open-at, lt-leb longestChange (dropping .count) (omega arith), z) refl
-
   module _ (id lpn : ℕ) (d : List ℕ) (long : eqb (length d) 512 ≡ true) (in-range : leb (w .state .geometry .logical) lpn ≡ false) where
     pub write-8 : leb 8 (placeOf (w .state .places) id) ≡ true → plan (write id lpn d) w ≡ refuse w 8
     unfolding plan planWrite addPlan
@@ -158,6 +148,16 @@ module _ (w : World) (pass : gate false w ≡ 0) where
   pub lone-5 : (lpn : ℕ) (d : List ℕ) → eqb (length d) 512 ≡ true → leb (w .state .geometry .logical) lpn ≡ true → plan (lone lpn d) w ≡ refuse w 5
   unfolding plan planLone
   lone-5 lpn d l h = rw (pass, l, h) refl
+
+  -- a drop goes where a write does: its page is held, 512 bytes 0xFF, and counted
+  module _ (id lpn : ℕ) (in-range : leb (w .state .geometry .logical) lpn ≡ false) (open-at : leb 8 (placeOf (w .state .places) id) ≡ false) where
+    abbrev dropping : Place
+    dropping = getD (w .state .places) (placeOf (w .state .places) id) noPlace
+
+    pub drop-done : dropping .count < 41 → (not (eqb (dropping .count) 0) && zoneShort w) ≡ false
+        → plan (dropPage id lpn) w ≡ writePlan (placeOf (w .state .places) id) dropping lpn true gone w
+    unfolding plan planDrop addPlan
+    drop-done n z = rw (pass, in-range, open-at, lt-leb longestChange (dropping .count) (omega arith), z) refl
 
   -- commit 8, 13, 12, "the last two only with a held page"
   pub commit-8 : (id : ℕ) → leb 8 (placeOf (w .state .places) id) ≡ true → plan (commit id) w ≡ refuse w 8
