@@ -1,4 +1,4 @@
--- A commit keeps the world live: its mark is programmed, its pages are mapped in write order, and the book has its writes.
+-- A commit keeps the world live: its mark is programmed, its pages are entered in write order, and the book has its writes.
 use mathlib.Core.Path.{_≡_, refl, sym, ap, _∙_, subst}
 use mathlib.Core.Logic.{_⊎_, inl, inr, _≢_}
 use mathlib.Core.Bool.{true, false}

@@ -1,4 +1,4 @@
--- A write keeps the world live: the page held before is programmed without a mark, and the new one is held.
+-- A write or a drop keeps the world live: the page held before is programmed without a mark, and the new one is held.
 use mathlib.Core.Path.{_≡_, refl, sym, ap, _∙_, subst}
 use mathlib.Core.Logic.{_⊎_, inl, inr, _≢_}
 use mathlib.Core.Bool.{Bool, true, false, not, cond, _&&_}
