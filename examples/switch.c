@@ -14,7 +14,10 @@
 #define PAGES 8
 #define LOGICAL 16
 #endif
-#if !BOKUHIRA_GEOMETRY(BLOCKS, PAGES, LOGICAL)
+#ifndef PLANES
+#define PLANES 1
+#endif
+#if !BOKUHIRA_GEOMETRY(BLOCKS, PAGES, LOGICAL, PLANES)
 #error "the geometry is out of range"
 #endif
 
@@ -91,13 +94,13 @@ static int never_used(void)
 /* Power-up, whatever the RAM holds. A new chip is formatted. */
 static uint8_t power_up(void)
 {
-    uint8_t answer = bokuhira_recover(LENT, BLOCKS, PAGES, LOGICAL);
+    uint8_t answer = bokuhira_recover(LENT, BLOCKS, PAGES, LOGICAL, PLANES);
 
     if (answer == BOKUHIRA_NO_CHECKPOINT && never_used()) {
         printf("a new chip is formatted\n");
         memset(state, 0, sizeof state); /* so that it begins with its first stride */
         do
-            answer = bokuhira_format(LENT, BLOCKS, PAGES, LOGICAL);
+            answer = bokuhira_format(LENT, BLOCKS, PAGES, LOGICAL, PLANES);
         while (answer == BOKUHIRA_MORE);
     }
     identifier = field(BOKUHIRA_AT_VERSION); /* the last version */
@@ -208,7 +211,7 @@ int main(void)
 
     memset(flash, 0xFF, sizeof flash); /* a new chip */
     for (i = 0; i <= BLOCKS; i++) {    /* power is cut in its format, when one page is programmed */
-        uint8_t answer = bokuhira_format(LENT, BLOCKS, PAGES, LOGICAL);
+        uint8_t answer = bokuhira_format(LENT, BLOCKS, PAGES, LOGICAL, PLANES);
         if (answer != BOKUHIRA_MORE)
             must("format", answer);
     }

@@ -36,6 +36,22 @@
  *               programs it.
  *   unmapped    a logical page that was never written, or was dropped: a read refuses it with 14. The two are one.
  *   stride      what one call does of a command that takes several.
+ *   plane       on a chip of two planes the even blocks are one and the odd blocks the other, and a page of each may be programmed at the
+ *               same time. Data block pages are taken from the planes in turn: the next from the other plane than the last, if one of its
+ *               available blocks has clean pages.
+ *
+ * Two planes. A write or drop may answer while its page is still programmed: the chip's driver, below the array, waits for it as the table
+ * says. The array holds such a page in full from the answer on, and the layer reads it so. A power cut leaves any part of it.
+ *
+ *   call                                          the driver waits
+ *   write, drop, that programs a page             before it begins, for the page that runs in the same plane; not for its own
+ *   commit that programs its mark, lone write     the same, and before it answers for both: its own page and the other plane's
+ *   commit of a change with nothing written       before it answers, for both planes
+ *   a stride of checkpoint, reclaim or format,    before it begins, for both planes; of its own program or erase for the end, before it
+ *   and recover                                   answers
+ *   begin, abort, read, class, a refused call     for nothing
+ *
+ * On one plane the driver waits for the end of each program and erase before the call answers, as always.
  *
  * Threads. The functions share nothing: calls on different buffers may run at the same time. On the same buffers calls of bokuhira_read
  * and bokuhira_class may run at the same time, each with its own *at or *difference. Every other call on them must be alone: with a
@@ -57,33 +73,40 @@ extern "C" {
 #endif
 
 #define BOKUHIRA_VERSION_MAJOR 0
-#define BOKUHIRA_VERSION_MINOR 5
+#define BOKUHIRA_VERSION_MINOR 6
 #define BOKUHIRA_VERSION_PATCH 0
-#define BOKUHIRA_VERSION "0.5.0"
+#define BOKUHIRA_VERSION "0.6.0"
 
 /*
  * The state: each field by its offset, little-endian, with nothing left between the fields. BOKUHIRA_STATE bytes encode a state if the
- * kind is 0 to 3, the stride number is 0 where the kind is 0 or 3, and each byte that says whether a page is a drop is 0 or 1, those past
- * a count too. What a state must say besides, to be in range, is part of refusal 1. Entries of a list past its count are not looked at.
+ * kind is 0 to 3, the stride number is 0 where the kind is 0 or 3, the last plane is 0 to 2, and each byte that says whether a page is a
+ * drop is 0 or 1, those past a count too. What a state must say besides, to be in range, is part of refusal 1. Entries of a list past its
+ * count are not looked at.
  */
 #define BOKUHIRA_AT_BLOCKS 0              /* 2 bytes */
 #define BOKUHIRA_AT_PAGES 2               /* 2 bytes: pages a block */
 #define BOKUHIRA_AT_LOGICAL 4             /* 2 bytes: logical pages */
-#define BOKUHIRA_AT_AVAILABLE 6           /* 3 bytes: the available blocks, in the order in which they are filled */
-#define BOKUHIRA_AT_AVAILABLE_COUNT 9     /* 1 byte: how many of them count */
-#define BOKUHIRA_AT_UNAVAILABLE 10        /* 126 bytes: the unavailable blocks, in the order in which they were filled */
-#define BOKUHIRA_AT_UNAVAILABLE_COUNT 136 /* 1 byte */
-#define BOKUHIRA_AT_FREE 137              /* 126 bytes: the free blocks, ascending */
-#define BOKUHIRA_AT_FREE_COUNT 263        /* 1 byte */
-#define BOKUHIRA_AT_POINTER 264           /* 1 byte: from which block on the next free one is taken */
-#define BOKUHIRA_AT_VERSION 265           /* 4 bytes: last version */
-#define BOKUHIRA_AT_CHECKPOINT 269        /* 4 bytes: checkpoint number */
-#define BOKUHIRA_AT_FRONT 273             /* 1 byte: front block, 0 or 1 */
-#define BOKUHIRA_AT_FIRST 274             /* 1 byte: first page of the checkpoint under way, else 0 */
-#define BOKUHIRA_AT_KIND 275              /* 1 byte: the work under way, BOKUHIRA_KIND_.. */
-#define BOKUHIRA_AT_STRIDE 276            /* 2 bytes: of a format its strides done, of a checkpoint its pages programmed, else 0 */
-#define BOKUHIRA_AT_PLACES 278            /* BOKUHIRA_PLACES places of BOKUHIRA_PLACE bytes */
-#define BOKUHIRA_STATE 2878
+#define BOKUHIRA_AT_PLANES 6              /* 2 bytes: planes, 1 or 2 */
+#define BOKUHIRA_AT_AVAILABLE 8           /* 3 bytes: the available blocks, in the order in which they are filled */
+#define BOKUHIRA_AT_AVAILABLE_COUNT 11    /* 1 byte: how many of them count */
+#define BOKUHIRA_AT_UNAVAILABLE 12        /* 126 bytes: the unavailable blocks, in the order in which they were filled */
+#define BOKUHIRA_AT_UNAVAILABLE_COUNT 138 /* 1 byte */
+#define BOKUHIRA_AT_FREE 139              /* 126 bytes: the free blocks, ascending */
+#define BOKUHIRA_AT_FREE_COUNT 265        /* 1 byte */
+#define BOKUHIRA_AT_POINTER 266           /* 1 byte: from which block on the next free one is taken */
+#define BOKUHIRA_AT_VERSION 267           /* 4 bytes: last version */
+#define BOKUHIRA_AT_CHECKPOINT 271        /* 4 bytes: checkpoint number */
+#define BOKUHIRA_AT_FRONT 275             /* 1 byte: front block, 0 or 1 */
+#define BOKUHIRA_AT_FIRST 276             /* 1 byte: first page of the checkpoint under way, else 0 */
+#define BOKUHIRA_AT_KIND 277              /* 1 byte: the work under way, BOKUHIRA_KIND_.. */
+#define BOKUHIRA_AT_STRIDE 278            /* 2 bytes: of a format its strides done, of a checkpoint its pages programmed, else 0 */
+#define BOKUHIRA_AT_PLANE 280             /* 1 byte: the plane of the last data block page, BOKUHIRA_PLANE_.. */
+#define BOKUHIRA_AT_PLACES 281            /* BOKUHIRA_PLACES places of BOKUHIRA_PLACE bytes */
+#define BOKUHIRA_STATE 2881
+
+#define BOKUHIRA_PLANE_NEITHER 0 /* on one plane always, on two after a format or recover */
+#define BOKUHIRA_PLANE_EVEN 1
+#define BOKUHIRA_PLANE_ODD 2
 
 #define BOKUHIRA_KIND_NONE 0
 #define BOKUHIRA_KIND_FORMAT 1
@@ -106,7 +129,7 @@ extern "C" {
 #define BOKUHIRA_ARRAY_MAX BOKUHIRA_ARRAY(BOKUHIRA_BLOCKS_MAX, BOKUHIRA_PAGES_MAX)
 
 /*
- * Stack for a call. Recover takes less than 58 KiB, every other function less than 26 KiB; this is 6 KiB more. It is true of the
+ * Stack for a call. Recover takes less than 58 KiB, every other function less than 30 KiB; this is 6 KiB more. It is true of the
  * archive as the kit compiles it for x86-64: measured (docs/BENCHMARKS.md), and added up from the frames, since nothing in it calls
  * itself or through a pointer. The caller's own frames, and interrupts on the same stack, come on top.
  */
@@ -121,13 +144,15 @@ extern "C" {
 #define BOKUHIRA_PAGES_MAX 64
 #define BOKUHIRA_LOGICAL_MIN 1 /* logical pages */
 #define BOKUHIRA_LOGICAL_MAX 1024
+#define BOKUHIRA_PLANES_MAX 2 /* and at least 1 */
 
 /* Whether a geometry is in range. */
-#define BOKUHIRA_GEOMETRY(blocks, pages, logical)                              \
+#define BOKUHIRA_GEOMETRY(blocks, pages, logical, planes)                      \
     ((blocks) >= BOKUHIRA_BLOCKS_MIN && (blocks) <= BOKUHIRA_BLOCKS_MAX        \
      && (pages) >= BOKUHIRA_PAGES_MIN && (pages) <= BOKUHIRA_PAGES_MAX         \
      && (logical) >= BOKUHIRA_LOGICAL_MIN && (logical) <= BOKUHIRA_LOGICAL_MAX \
-     && (logical) <= ((blocks) - 6) * (pages))
+     && (logical) <= ((blocks) - 6) * (pages)                                  \
+     && (planes) >= 1 && (planes) <= BOKUHIRA_PLANES_MAX)
 
 /* The map pages of a checkpoint, which has the zone page besides. */
 #define BOKUHIRA_MAP_PAGES(logical) (((logical) + 255) / 256)
@@ -138,16 +163,16 @@ extern "C" {
 /* Answers. bokuhira_text says each in a line; here stands what a line cannot say. */
 #define BOKUHIRA_DONE 0
 #define BOKUHIRA_BAD_FRAME 1 /* geometry or a buffer length out of range; bytes that encode no state; a map or zone list that 3 would
-                                refuse; a place with over 64 pages, an identifier that 6 refuses, one that two places share, or a
-                                logical page or data page number out of range; pointer, front place or stride number out of range;
-                                the next front page of a stride under way not erased */
+                                refuse; a place with over 64 pages, on two planes 41, the held one counted, an identifier that 6
+                                refuses, one that two places share, or a logical page or data page number out of range; pointer, front
+                                place or stride number out of range; the next front page of a stride under way not erased */
 #define BOKUHIRA_NO_CHECKPOINT 2
 #define BOKUHIRA_BAD_CHECKPOINT 3 /* map: an entry other than 0xFFFF outside the data blocks or repeated, or one past the logical pages
                                      that is not 0xFFFF; zones: more than blocks - 2 in all or three available, a block or the pointer
                                      outside the data blocks, a block repeated, free ones not ascending, the rest of the page not 0 */
-#define BOKUHIRA_BAD_PAGE 4 /* Kind neither 0 (a write) nor 3 (a drop); Reserved not 0; LPN too high; only one of TxCnt and TxVer 0; TxID
-                               or TxVer 0xFFFFFFFF; TxID 0 with TxCnt not 1; a second mark (TxCnt not 0) of one nonzero TxID; a TxVer
-                               above 0 that is repeated */
+#define BOKUHIRA_BAD_PAGE 4 /* Kind neither 0 (a write) nor 3 (a drop); Reserved not 0, or on two planes, on pages of one nonzero TxID, 0,
+                               above 41 or repeated; LPN too high; only one of TxCnt and TxVer 0; TxID or TxVer 0xFFFFFFFF; TxID 0 with
+                               TxCnt not 1; a second mark (TxCnt not 0) of one nonzero TxID; a TxVer above 0 that is repeated */
 #define BOKUHIRA_BAD_LOGICAL_PAGE 5
 #define BOKUHIRA_BAD_IDENTIFIER 6
 #define BOKUHIRA_IDENTIFIER_LIVE 7 /* a closed change's pages are in scan order until a checkpoint has made their blocks checkpointed */
@@ -240,7 +265,7 @@ static inline const char *bokuhira_text(uint8_t answer)
  */
 BOKUHIRA_CHECKED
 uint8_t bokuhira_format(uint8_t *array, size_t array_len, uint16_t *map, size_t map_len, const uint8_t *hold, size_t hold_len,
-                        uint8_t *state, size_t state_len, uint16_t blocks, uint16_t pages, uint16_t logical);
+                        uint8_t *state, size_t state_len, uint16_t blocks, uint16_t pages, uint16_t logical, uint16_t planes);
 
 /*
  * Makes map and state from what stands on the array. It programs nothing, and no change is open after it.
@@ -248,7 +273,7 @@ uint8_t bokuhira_format(uint8_t *array, size_t array_len, uint16_t *map, size_t 
  */
 BOKUHIRA_CHECKED
 uint8_t bokuhira_recover(const uint8_t *array, size_t array_len, uint16_t *map, size_t map_len, const uint8_t *hold, size_t hold_len,
-                         uint8_t *state, size_t state_len, uint16_t blocks, uint16_t pages, uint16_t logical);
+                         uint8_t *state, size_t state_len, uint16_t blocks, uint16_t pages, uint16_t logical, uint16_t planes);
 
 /*
  * Opens a change with this identifier, in the lowest free place.

@@ -37,7 +37,7 @@ mod state;
 
 pub use answer::{Answer, Refusal};
 pub use class::Class;
-pub use state::{Kind, Place, State, Work, Zones};
+pub use state::{Kind, Place, Plane, State, Work, Zones};
 
 /// The bytes of a page, of its data, and of its spare area.
 pub const PAGE: usize = 528;
@@ -46,23 +46,47 @@ pub const SPARE: usize = 16;
 /// The bytes of the hold: a page of data for each of the eight places.
 pub const HOLD: usize = 4096;
 /// The bytes of a state.
-pub const STATE: usize = 2878;
-/// The pages up to which a change may be written. One that was begun before version 0.2 may have up to 64: it can be committed or aborted.
+pub const STATE: usize = 2881;
+/// The pages up to which a change may be written. On one plane one that was begun before version 0.2 may have up to 64: it can be committed or
+/// aborted.
 pub const CHANGE_PAGES: usize = 41;
 /// The map entry of a logical page that was never written, or was dropped.
 pub const UNMAPPED: u16 = 0xFFFF;
 
-/// The size of a flash array: blocks, pages in each, and logical pages.
+/// The size of a flash array: blocks, pages in each, logical pages, and planes, 1 or 2.
 #[derive(Clone, Copy, PartialEq, Eq, Debug)]
 pub struct Geometry {
     pub blocks: u16,
     pub pages: u16,
     pub logical: u16,
+    pub planes: u16,
 }
 
 impl Geometry {
-    pub fn new(blocks: u16, pages: u16, logical: u16) -> Geometry {
-        Geometry { blocks, pages, logical }
+    /// Of one plane.
+    pub const fn new(blocks: u16, pages: u16, logical: u16) -> Geometry {
+        Geometry { blocks, pages, logical, planes: 1 }
+    }
+
+    /// The same with another number of planes.
+    ///
+    /// ```
+    /// use bokuhira::{Answer, Geometry, Plane, Refusal, State, Store, DATA};
+    ///
+    /// fn main() -> Result<(), Refusal> {
+    ///     let mut store = Store::formatted(Geometry::new(8, 8, 16).with_planes(2))?;
+    ///     let last = |store: &Store| State::decode(&store.state).map(|s| s.last);
+    ///     assert_eq!(last(&store), Some(Plane::Neither));
+    ///     // pages are taken from blocks 2 and 3 in turn
+    ///     for (lpn, plane) in [(3, Plane::Even), (4, Plane::Odd), (3, Plane::Even)] {
+    ///         assert_eq!(store.lone(lpn, &[0x33; DATA]), Answer::Done);
+    ///         assert_eq!(last(&store), Some(plane));
+    ///     }
+    ///     Ok(())
+    /// }
+    /// ```
+    pub const fn with_planes(self, planes: u16) -> Geometry {
+        Geometry { planes, ..self }
     }
 
     /// The bytes of an array of this size.

@@ -3,8 +3,8 @@ use crate::{Geometry, Store};
 
 #[rustfmt::skip]
 extern "C" {
-    fn bokuhira_format(a: *mut u8, an: usize, m: *mut u16, mn: usize, h: *const u8, hn: usize, s: *mut u8, sn: usize, b: u16, p: u16, l: u16) -> u8;
-    fn bokuhira_recover(a: *const u8, an: usize, m: *mut u16, mn: usize, h: *const u8, hn: usize, s: *mut u8, sn: usize, b: u16, p: u16, l: u16) -> u8;
+    fn bokuhira_format(a: *mut u8, an: usize, m: *mut u16, mn: usize, h: *const u8, hn: usize, s: *mut u8, sn: usize, b: u16, p: u16, l: u16, n: u16) -> u8;
+    fn bokuhira_recover(a: *const u8, an: usize, m: *mut u16, mn: usize, h: *const u8, hn: usize, s: *mut u8, sn: usize, b: u16, p: u16, l: u16, n: u16) -> u8;
     fn bokuhira_begin(a: *const u8, an: usize, m: *const u16, mn: usize, h: *const u8, hn: usize, s: *mut u8, sn: usize, id: u32) -> u8;
     fn bokuhira_write(a: *mut u8, an: usize, m: *const u16, mn: usize, h: *mut u8, hn: usize, s: *mut u8, sn: usize, d: *const u8, dn: usize, id: u32, lpn: u16) -> u8;
     fn bokuhira_drop(a: *mut u8, an: usize, m: *const u16, mn: usize, h: *mut u8, hn: usize, s: *mut u8, sn: usize, id: u32, lpn: u16) -> u8;
@@ -28,11 +28,11 @@ macro_rules! lent {
 }
 
 pub fn format(s: &mut Store, g: Geometry) -> u8 {
-    lent!(bokuhira_format, s, g.blocks, g.pages, g.logical)
+    lent!(bokuhira_format, s, g.blocks, g.pages, g.logical, g.planes)
 }
 
 pub fn recover(s: &mut Store, g: Geometry) -> u8 {
-    lent!(bokuhira_recover, s, g.blocks, g.pages, g.logical)
+    lent!(bokuhira_recover, s, g.blocks, g.pages, g.logical, g.planes)
 }
 
 pub fn begin(s: &mut Store, id: u32) -> u8 {

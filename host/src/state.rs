@@ -1,7 +1,7 @@
 //! A state as its fields, for programs that look into it. The layer itself takes and gives the bytes.
 use crate::{Geometry, STATE};
 
-const PLACES: usize = 278;
+const PLACES: usize = 281;
 const PLACE: usize = 325;
 /// Within a place: one byte a page, 0 for a write and 1 for a drop.
 const DROPS: usize = 261;
@@ -31,6 +31,15 @@ pub struct Work {
     pub stride: u16,
 }
 
+/// The plane of the last data block page, on a flash of two planes; neither after a format or a recover, and on one plane.
+#[derive(Clone, Copy, PartialEq, Eq, Debug, Default)]
+pub enum Plane {
+    #[default]
+    Neither,
+    Even,
+    Odd,
+}
+
 /// A transaction place: the pages written in order, logical and physical, and which of them are drops. The last of them is held and has no
 /// physical page yet.
 #[derive(Clone, PartialEq, Eq, Debug, Default)]
@@ -57,6 +66,7 @@ pub struct State {
     pub front: u8,
     pub first: u8,
     pub work: Work,
+    pub last: Plane,
     pub places: Vec<Place>,
 }
 
@@ -74,23 +84,29 @@ impl State {
         if b.len() != STATE {
             return None;
         }
-        let kind = match b[275] {
+        let kind = match b[277] {
             0 => Kind::Idle,
             1 => Kind::Format,
             2 => Kind::Checkpoint,
             3 => Kind::Reclaim,
             _ => return None,
         };
-        let stride = half(b, 276);
+        let stride = half(b, 278);
         if matches!(kind, Kind::Idle | Kind::Reclaim) && stride != 0 {
             return None;
         }
+        let last = match b[280] {
+            0 => Plane::Neither,
+            1 => Plane::Even,
+            2 => Plane::Odd,
+            _ => return None,
+        };
         let drops = |i: usize| &b[PLACES + PLACE * i + DROPS..PLACES + PLACE * (i + 1)];
         if (0..8).any(|i| drops(i).iter().any(|d| *d > 1)) {
             return None;
         }
         let blocks = |at: usize, room: usize| b[at..at + (b[at + room] as usize).min(room)].to_vec();
-        let zones = Zones { available: blocks(6, 3), unavailable: blocks(10, 126), free: blocks(137, 126), pointer: b[264] };
+        let zones = Zones { available: blocks(8, 3), unavailable: blocks(12, 126), free: blocks(139, 126), pointer: b[266] };
         let places = (0..8)
             .map(|i| {
                 let at = PLACES + PLACE * i;
@@ -104,13 +120,14 @@ impl State {
             })
             .collect();
         Some(State {
-            geometry: Geometry::new(half(b, 0), half(b, 2), half(b, 4)),
+            geometry: Geometry::new(half(b, 0), half(b, 2), half(b, 4)).with_planes(half(b, 6)),
             zones,
-            version: word(b, 265),
-            checkpoint: word(b, 269),
-            front: b[273],
-            first: b[274],
+            version: word(b, 267),
+            checkpoint: word(b, 271),
+            front: b[275],
+            first: b[276],
             work: Work { kind, stride },
+            last,
             places,
         })
     }
@@ -122,17 +139,19 @@ impl State {
         put(&mut b, 0, &self.geometry.blocks.to_le_bytes());
         put(&mut b, 2, &self.geometry.pages.to_le_bytes());
         put(&mut b, 4, &self.geometry.logical.to_le_bytes());
-        for (list, at, room) in [(&self.zones.available, 6, 3), (&self.zones.unavailable, 10, 126), (&self.zones.free, 137, 126)] {
+        put(&mut b, 6, &self.geometry.planes.to_le_bytes());
+        for (list, at, room) in [(&self.zones.available, 8, 3), (&self.zones.unavailable, 12, 126), (&self.zones.free, 139, 126)] {
             put(&mut b, at, &list[..list.len().min(room)]);
             b[at + room] = list.len() as u8;
         }
-        b[264] = self.zones.pointer;
-        put(&mut b, 265, &self.version.to_le_bytes());
-        put(&mut b, 269, &self.checkpoint.to_le_bytes());
-        b[273] = self.front;
-        b[274] = self.first;
-        b[275] = self.work.kind as u8;
-        put(&mut b, 276, &self.work.stride.to_le_bytes());
+        b[266] = self.zones.pointer;
+        put(&mut b, 267, &self.version.to_le_bytes());
+        put(&mut b, 271, &self.checkpoint.to_le_bytes());
+        b[275] = self.front;
+        b[276] = self.first;
+        b[277] = self.work.kind as u8;
+        put(&mut b, 278, &self.work.stride.to_le_bytes());
+        b[280] = self.last as u8;
         for (i, p) in self.places.iter().take(8).enumerate() {
             let at = PLACES + PLACE * i;
             put(&mut b, at, &p.id.to_le_bytes());

@@ -1,10 +1,10 @@
-//! Random sequences of document 01 (docs/PAPERS.md) with cuts at random bits, against its book: after every cut a recovery gives each
-//! logical page as the book has it, and every torn page is torn by at least 1. Every call also goes to the plain layer, which must answer
-//! and leave the same.
+//! Random sequences of document 01 (docs/PAPERS.md) with cuts at random bits, on one plane and on two, against its book: after every cut a
+//! recovery gives each logical page as the book has it, and every torn page is torn by at least 1. On two planes a cut also leaves any part
+//! of the pages that run. Every call also goes to the plain layer, which must answer and leave the same.
 mod common;
 
 use bokuhira::{Call, Class, Geometry, State, Store, DATA, PAGE, UNMAPPED};
-use common::{due_bits, kind, lost_state, say, Layer, Met, Rng, NAMES};
+use common::{due_bits, kind, lost_state, say, Done, Layer, Met, Rng, Running, NAMES};
 use std::collections::BTreeMap;
 
 /// What the book has of a page: its data, or that it was never written.
@@ -53,7 +53,7 @@ impl Book {
         }
     }
 
-    /// A cut, in a call or between two: whether the call programs a page, and whether all due bits were turned.
+    /// A cut, in a call or between two: whether the call programs a page, and whether all due bits of its transaction's pages were turned.
     fn cut(&mut self, call: Option<&Call>, programs: bool, all_turned: bool) {
         if let Some(call) = call.filter(|_| programs && all_turned) {
             self.enter_writes(call);
@@ -74,15 +74,16 @@ struct Mood {
 const MIXED: [usize; 10] = [10, 20, 10, 15, 10, 3, 6, 6, 8, 1];
 const SHORT: [usize; 10] = [18, 30, 10, 4, 30, 2, 3, 8, 8, 0];
 const DROPS: [usize; 10] = [18, 6, 34, 8, 30, 2, 3, 8, 8, 0];
+const RUNS: [usize; 10] = [14, 50, 12, 1, 24, 4, 2, 8, 8, 0];
 const LONE: [usize; 10] = [2, 2, 1, 60, 2, 1, 4, 9, 9, 0];
 const LONG: [usize; 10] = [3, 90, 30, 2, 1, 0, 2, 14, 6, 0];
 const MANY: [usize; 10] = [60, 20, 10, 2, 4, 4, 2, 4, 4, 0];
 const TIDY: [usize; 10] = [1, 2, 1, 8, 1, 1, 2, 10, 50, 0];
 const NO_CHECKPOINT: [usize; 10] = [2, 4, 2, 30, 2, 1, 2, 1, 50, 0];
-const MOODS: [[usize; 10]; 9] = [MIXED, SHORT, SHORT, DROPS, LONE, LONG, MANY, TIDY, NO_CHECKPOINT];
+const MOODS: [[usize; 10]; 10] = [MIXED, SHORT, SHORT, DROPS, RUNS, LONE, LONG, MANY, TIDY, NO_CHECKPOINT];
 
-/// The cuts made: between calls, and in each command's programs and erases, by whether no, some or all due bits were turned. And the torn
-/// pages met after them: on all pages, and in scan order.
+/// The cuts made: between calls, before an operation, and in each command's programs and erases, by whether no, some or all due bits were
+/// turned; so too of the pages that ran. And the torn pages met after them: on all pages, and in scan order.
 #[derive(Default)]
 struct Cuts {
     torn: usize,
@@ -93,6 +94,13 @@ struct Cuts {
     in_erases: [[usize; 3]; NAMES.len()],
     /// In the program of a page that drops.
     in_drops: usize,
+    /// Before the operation begins, where pages run; one of them in the plane of the page to be programmed.
+    early: [usize; 2],
+    /// Pages that ran.
+    in_running: [usize; 3],
+    /// The mark is whole, and a page of its change that ran is not; or one of another change.
+    short_of_own: usize,
+    short_of_others: usize,
 }
 
 impl Cuts {
@@ -110,8 +118,12 @@ impl Cuts {
         self.between += other.between;
         self.without_operation += other.without_operation;
         self.in_drops += other.in_drops;
+        self.short_of_own += other.short_of_own;
+        self.short_of_others += other.short_of_others;
         let here = self.in_programs.iter_mut().chain(&mut self.in_erases).flatten();
         here.zip(other.in_operations()).for_each(|(a, b)| *a += b);
+        let here = self.early.iter_mut().chain(&mut self.in_running);
+        here.zip(other.early.iter().chain(&other.in_running)).for_each(|(a, b)| *a += b);
     }
 
     /// A line for each kind of operation after a format; each must have been cut with no, some and all due bits turned.
@@ -121,6 +133,12 @@ impl Cuts {
         say(&format!("  {} between calls, {} in calls without an operation", self.between, self.without_operation));
         say(&format!("  {} in the program of a page that drops", self.in_drops));
         assert!(self.in_drops > 200, "few drops were cut");
+        let [none, some, all] = self.in_running;
+        say(&format!("  of pages that ran: {none} with no due bit turned, {some} with some, {all} with all"));
+        say(&format!("  {} before the operation begins while pages run, {} with one in its plane", self.early[0], self.early[1]));
+        say(&format!("  {} whole marks with a running page of theirs torn or lost, {} with one of others", self.short_of_own, self.short_of_others));
+        assert!(none > 100 && some > 100 && all > 100, "pages that ran were not cut in every way");
+        assert!(self.early[1] > 50 && self.short_of_own > 100 && self.short_of_others > 20, "few pages were cut beside others");
         for (what, counts, commands) in [
             ("programs", &self.in_programs, &["write", "drop", "lone", "commit", "checkpoint", "reclaim"][..]),
             ("erases", &self.in_erases, &["checkpoint", "reclaim"][..]),
@@ -147,6 +165,7 @@ struct Run {
     fresh: u32,
     /// The command of several strides under way.
     under_way: Option<Call>,
+    running: Vec<Running>,
 }
 
 impl Run {
@@ -157,11 +176,13 @@ impl Run {
         rng.fill(&mut proved.array);
         proved.state = lost_state(&mut rng);
         let plain = proved.clone();
-        Run { g, rng, proved, plain, book: Book::new(g), met: Met::new(), cuts: Cuts::default(), fresh: 1, under_way: None }
+        let (met, cuts) = (Met::new(), Cuts::default());
+        Run { g, rng, proved, plain, book: Book::new(g), met, cuts, fresh: 1, under_way: None, running: Vec::new() }
     }
 
-    /// A call on both layers: the same answer, the same buffers, one operation at most, and nothing at all where it is refused.
-    fn both(&mut self, call: &Call) -> u8 {
+    /// A call on both layers: the same answer, the same buffers, one operation at most, and nothing at all where it is refused. Gives the
+    /// answer and the store before.
+    fn both(&mut self, call: &Call) -> (u8, Store) {
         let before = self.proved.clone();
         let answer = Layer::Proved.call(&mut self.proved, call);
         assert_eq!(Layer::Plain.call(&mut self.plain, call), answer, "the plain layer answers otherwise to {call:?}");
@@ -171,7 +192,7 @@ impl Run {
         } else {
             self.one_operation(&before.array, &self.proved.array);
         }
-        answer
+        (answer, before)
     }
 
     /// Nothing changed, or ones of one page became zeros, or one block was erased.
@@ -188,7 +209,11 @@ impl Run {
 
     /// One call of the sequence.
     fn call(&mut self, call: &Call) -> u8 {
-        let answer = self.both(call);
+        let (answer, before) = self.both(call);
+        self.running = Done { call, answer, before: &before, after: &self.proved.array }.after(&self.running);
+        let plane = |r: &Running| r.page / self.g.pages as usize % 2;
+        let one_a_plane = self.running.iter().enumerate().all(|(i, r)| self.running[..i].iter().all(|s| plane(r) != plane(s)));
+        assert!(one_a_plane && (self.g.planes == 2 || self.running.is_empty()), "these run: {:?}", self.running);
         self.met.note(call, answer);
         self.book.answered(call, answer);
         if self.under_way.as_ref() == Some(call) {
@@ -236,8 +261,8 @@ impl Run {
             if self.rng.once_in(20) {
                 self.cut_in(Some(&call));
                 // a format of this geometry is not under way: the next call is a first stride
-                self.proved.state[275..278].fill(0);
-                self.plain.state[275..278].fill(0);
+                self.proved.state[277..280].fill(0);
+                self.plain.state[277..280].fill(0);
                 first = true;
             }
             let answer = self.call(&call);
@@ -253,29 +278,52 @@ impl Run {
 
     /// The array as a cut in a call leaves it, and the book with it; map, hold and state are lost.
     fn cut_in(&mut self, call: Option<&Call>) {
+        let mut running = std::mem::take(&mut self.running);
         let (mut programs, mut all_turned) = (false, false);
         if let Some(call) = call {
-            let before = (self.proved.clone(), self.plain.clone());
-            self.both(call);
-            let due = due_bits(&before.0.array, &self.proved.array);
+            let (answer, before) = self.both(call);
+            let due = due_bits(&before.array, &self.proved.array);
+            let during = Done { call, answer, before: &before, after: &self.proved.array }.during(&running);
             // byte 524 of a page is its Kind, and 3 that of a drop
             let drops = due.first().is_some_and(|(at, _)| self.proved.array[at / PAGE * PAGE + 524] == 3);
             self.cuts.in_drops += drops as usize;
-            (self.proved, self.plain) = before;
+            (self.proved, self.plain) = (before.clone(), before);
             programs = due.first().is_some_and(|(at, mask)| self.proved.array[*at] & mask != 0);
-            let turned = self.turned(due.len());
+            let early = !running.is_empty() && self.rng.once_in(4);
+            let turned = match early {
+                true => vec![false; due.len()],
+                // all of them, though a page that runs may be short of some
+                _ if !during.is_empty() && self.rng.once_in(3) => vec![true; due.len()],
+                _ => self.turned(due.len()),
+            };
             all_turned = turned.iter().all(|t| *t);
             if due.is_empty() {
                 self.cuts.without_operation += 1;
+            } else if early {
+                self.cuts.early[usize::from(during.len() < running.len())] += 1;
             } else {
                 let cuts = if programs { &mut self.cuts.in_programs } else { &mut self.cuts.in_erases };
-                cuts[kind(call)][if all_turned { 2 } else { turned.contains(&true).into() }] += 1;
+                cuts[kind(call)][how_many(&turned)] += 1;
             }
             for ((at, mask), _) in due.iter().zip(turned).filter(|(_, turned)| *turned) {
                 self.proved.array[*at] ^= mask;
             }
+            if !early {
+                running = during;
+            }
         } else {
             self.cuts.between += 1;
+        }
+        let mark = matches!(call, Some(Call::Commit(_))) && programs && all_turned;
+        for r in running {
+            let turned = self.turned(r.due_bits(&self.proved.array).len());
+            r.cut(&mut self.proved.array, &turned);
+            self.cuts.in_running[how_many(&turned)] += 1;
+            let own = call == Some(&Call::Commit(r.id));
+            let short = turned.contains(&false);
+            all_turned &= !(own && short);
+            self.cuts.short_of_own += usize::from(mark && own && short);
+            self.cuts.short_of_others += usize::from(mark && !own && short);
         }
         self.book.cut(call, programs, all_turned);
         self.under_way = None;
@@ -364,12 +412,14 @@ impl Run {
     }
 
     fn refused_format(&mut self) {
-        let Geometry { blocks, pages, logical } = self.g;
+        let Geometry { blocks, logical, .. } = self.g;
         let wrong = [
-            Geometry::new(7, pages, 1),
-            Geometry::new(blocks, pages, logical + 1),
-            Geometry::new(blocks + 1, pages, logical),
-            Geometry::new(blocks, 65, logical),
+            Geometry { blocks: 7, logical: 1, ..self.g },
+            Geometry { logical: logical + 1, ..self.g },
+            Geometry { blocks: blocks + 1, ..self.g },
+            Geometry { pages: 65, ..self.g },
+            Geometry { planes: 0, ..self.g },
+            Geometry { planes: 3, ..self.g },
         ];
         let call = Call::Format(*self.rng.pick(&wrong));
         assert_eq!(self.call(&call), 1);
@@ -460,7 +510,13 @@ impl Run {
             let mood = Mood { weights, cut_once_in: *self.rng.pick(&[8, 20, 100, 400]), one_change: weights == LONG };
             for _ in 0..40 + self.rng.below(200) {
                 let mut call = self.draw(&mood);
-                if self.rng.once_in(mood.cut_once_in) {
+                // while pages run more often, and in a commit more often still
+                let once_in = match call {
+                    Call::Commit(_) if !self.running.is_empty() => 3,
+                    _ if !self.running.is_empty() => mood.cut_once_in.min(20),
+                    _ => mood.cut_once_in,
+                };
+                if self.rng.once_in(once_in) {
                     // most often in a call that programs or erases
                     for _ in 0..6 {
                         if !self.operates(&call) {
@@ -481,7 +537,16 @@ impl Run {
     }
 }
 
-/// Geometries, and how many calls their sequences make in all.
+/// How many bits were turned: none, some, all.
+fn how_many(turned: &[bool]) -> usize {
+    if turned.contains(&false) {
+        turned.contains(&true).into()
+    } else {
+        2
+    }
+}
+
+/// Geometries, and how many calls their sequences make in all, on one plane and on two.
 const SIZES: [(u16, u16, u16, usize); 10] = [
     (8, 8, 16, 60_000),
     (8, 8, 1, 12_000),
@@ -497,11 +562,10 @@ const SIZES: [(u16, u16, u16, usize); 10] = [
 
 #[test]
 fn committed_settings_outlive_cuts() {
-    let jobs: Vec<(Geometry, usize, u64)> = SIZES
+    let jobs: Vec<(Geometry, usize, u64)> = [1, 2]
         .iter()
-        .flat_map(|&(b, p, l, calls)| {
-            (0..calls.div_ceil(2_000)).map(move |i| (Geometry::new(b, p, l), 2_000, 1_000 * b as u64 + 100 * p as u64 + i as u64))
-        })
+        .flat_map(|planes| SIZES.map(|(b, p, l, calls)| (Geometry::new(b, p, l).with_planes(*planes), calls)))
+        .flat_map(|(g, calls)| (0..calls.div_ceil(2_000)).map(move |i| (g, 2_000, 1_000 * g.blocks as u64 + 100 * g.pages as u64 + i as u64)))
         .collect();
     let next = std::sync::atomic::AtomicUsize::new(0);
     let work = || {

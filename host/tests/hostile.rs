@@ -1,19 +1,25 @@
-//! Inputs that no sequence makes: any state bytes, any map, any array, any page, any lengths. The proved library and the plain layer,
-//! written apart from it, must answer the same and leave the same bytes; a refusal leaves everything as it was.
+//! Inputs that no sequence makes: any state bytes, any map, any array, any page, any lengths, on one plane and on two. The proved library and
+//! the plain layer, written apart from it, must answer the same and leave the same bytes; a refusal leaves everything as it was.
 mod common;
 
-use bokuhira::{Call, Class, Geometry, Kind, Place, State, Store, Work, Zones, DATA, HOLD, PAGE, STATE, UNMAPPED};
+use bokuhira::{Call, Class, Geometry, Kind, Place, Plane, State, Store, Work, Zones, DATA, HOLD, PAGE, STATE, UNMAPPED};
 use common::{compare, drop_bytes, formatted, lost_state, put, say, spare, told, whole_page, zone_data, Layer, Met, Rng, LAYERS, NAMES};
+use std::collections::BTreeMap;
+
+const PLANES: [Plane; 3] = [Plane::Neither, Plane::Even, Plane::Odd];
 
 /// Worlds and the calls on them, drawn from one seed.
 struct Maker {
     rng: Rng,
     met: Met,
+    planes: u16,
+    /// How many pages of each identifier were made.
+    made: BTreeMap<u32, usize>,
 }
 
 impl Maker {
     fn new(seed: u64) -> Maker {
-        Maker { rng: Rng::new(seed), met: Met::new() }
+        Maker { rng: Rng::new(seed), met: Met::new(), planes: 1, made: BTreeMap::new() }
     }
 
     /// A call on both layers, from the same world. The world becomes what it leaves.
@@ -35,13 +41,13 @@ impl Maker {
             1 => most,
             _ => 1 + self.below(most),
         };
-        Geometry::new(blocks as u16, pages as u16, logical as u16)
+        Geometry::new(blocks as u16, pages as u16, logical as u16).with_planes(self.planes)
     }
 
     /// A geometry of two or more map pages.
     fn wide_geometry(&mut self) -> Geometry {
         let (blocks, pages) = (24 + self.below(4), 16 + self.below(8));
-        Geometry::new(blocks as u16, pages as u16, 250 + self.below(38) as u16)
+        Geometry::new(blocks as u16, pages as u16, 250 + self.below(38) as u16).with_planes(self.planes)
     }
 
     /// Some of the numbers from..to, each once, in any order.
@@ -92,15 +98,30 @@ impl Maker {
         }
     }
 
+    /// The write number of a page on two planes, else 0: 41 one after the other of an identifier are all different, in no order. Now and then
+    /// any.
+    fn number(&mut self, id: u32) -> u8 {
+        if self.rng.once_in(300) {
+            return *self.rng.pick(&[0, 1, 2, 40, 41, 42, 255]);
+        }
+        if self.planes == 1 || id == 0 {
+            return 0;
+        }
+        let made = self.made.entry(id).or_default();
+        *made += 1;
+        1 + (17 * *made % 41) as u8
+    }
+
     /// A spare area of a data page; most pass refusal 4.
     fn spare(&mut self, g: Geometry) -> [u8; 14] {
         let lpn = if self.rng.once_in(200) { g.logical } else { self.below(g.logical as usize) as u16 };
-        let (kind, reserved) = match self.below(200) {
-            0 => (self.below(6) as u8, self.below(2) as u8),
-            1..50 => (3, 0),
-            _ => (0, 0),
+        let kind = match self.below(200) {
+            0 => self.below(6) as u8,
+            1..50 => 3,
+            _ => 0,
         };
         let id = self.id();
+        let reserved = self.number(id);
         let (count, version) = match self.below(300) {
             0 => (self.below(4) as u16, 0),
             1 => (0, self.version()),
@@ -196,6 +217,7 @@ impl Maker {
             front: self.below(2) as u8,
             first: first as u8,
             work: Work { kind, stride: stride as u16 },
+            last: *self.rng.pick(&PLANES),
             places,
         }
     }
@@ -289,6 +311,8 @@ impl Maker {
             1 => Geometry { pages: edge, ..g },
             2 => Geometry { logical: edge, ..g },
             3 => Geometry { blocks: g.pages, pages: g.blocks, ..g },
+            4 => Geometry { planes: edge, ..g },
+            5 | 6 => Geometry { planes: 3 - g.planes, ..g },
             _ => g,
         }
     }
@@ -341,7 +365,7 @@ impl Maker {
         let half = *self.rng.pick(&[0, 1, 2, 7, 8, 9, 15, 16, 17, 64, 65, 127, 128, 129, 1023, 1024, 1025, 8191, 8192, u16::MAX]);
         let word = *self.rng.pick(&[0, 1, 2, 5, 9, u32::MAX - 3, u32::MAX - 2, u32::MAX - 1, u32::MAX]);
         let i = self.below(8);
-        match self.below(17) {
+        match self.below(20) {
             0 => s.geometry.blocks = half,
             1 => s.geometry.pages = half,
             2 => s.geometry.logical = half,
@@ -361,6 +385,9 @@ impl Maker {
                 s.places[i].drops.push(byte == 1);
             }
             15 => s.places[i].drops.iter_mut().for_each(|d| *d = !*d),
+            16 => s.geometry.planes = half,
+            17 => s.geometry.planes = 1 + s.geometry.planes % 2,
+            18 => s.last = *self.rng.pick(&PLANES),
             _ => {
                 let k = self.below(s.places[i].ppns.len().max(1));
                 s.places[i].ppns.get_mut(k).into_iter().for_each(|ppn| *ppn = half);
@@ -377,11 +404,11 @@ impl Maker {
         if world.state.len() != STATE {
             return;
         }
-        for (at, room) in [(6, 3), (10, 126), (137, 126)] {
+        for (at, room) in [(8, 3), (12, 126), (139, 126)] {
             let from = at + (world.state[at + room] as usize).min(room);
             self.rng.fill(&mut world.state[from..at + room]);
         }
-        for at in (0..8).map(|i| 278 + 325 * i) {
+        for at in (0..8).map(|i| 281 + 325 * i) {
             let count = (world.state[at + 4] as usize).min(64);
             self.rng.fill(&mut world.state[at + 5 + 2 * count..at + 133]);
             self.rng.fill(&mut world.state[at + 133 + 2 * count.saturating_sub(1)..at + 261]);
@@ -454,8 +481,8 @@ impl Maker {
 
 #[test]
 fn any_input_gives_the_same_on_both_layers() {
-    let work = |seed: u64| {
-        let mut maker = Maker::new(seed);
+    let work = |seed: u64, planes: u16| {
+        let mut maker = Maker { planes, ..Maker::new(seed) };
         for round in 0..4_000 {
             let g = if round % 16 == 0 { maker.wide_geometry() } else { maker.geometry() };
             let mut world = if round % 4 == 0 { maker.lived(g) } else { maker.made(g) };
@@ -466,19 +493,21 @@ fn any_input_gives_the_same_on_both_layers() {
         }
         maker.met
     };
-    let mut met = Met::new();
-    std::thread::scope(|s| {
-        let threads: Vec<_> = (0..2).map(|seed| s.spawn(move || work(seed))).collect();
-        threads.into_iter().for_each(|t| met.add(&t.join().expect("a world")));
-    });
-    say(&format!("hostile: {} calls agree on both layers; each command's answers, and how often:", met.calls()));
-    met.say();
-    for command in NAMES {
-        assert!(met.times(command, 0) > 0, "{command} was never done");
-        assert!(met.times(command, 1) > 0, "{command} never answered bad frame");
-    }
-    for refusal in 1..=17 {
-        assert!(met.in_all(refusal) > 0, "refusal {refusal} was never met");
+    for planes in [1, 2] {
+        let mut met = Met::new();
+        std::thread::scope(|s| {
+            let threads: Vec<_> = (0..2).map(|seed| s.spawn(move || work(seed, planes))).collect();
+            threads.into_iter().for_each(|t| met.add(&t.join().expect("a world")));
+        });
+        say(&format!("hostile, planes {planes}: {} calls agree on both layers; each command's answers, and how often:", met.calls()));
+        met.say();
+        for command in NAMES {
+            assert!(met.times(command, 0) > 0, "{command} was never done");
+            assert!(met.times(command, 1) > 0, "{command} never answered bad frame");
+        }
+        for refusal in 1..=17 {
+            assert!(met.in_all(refusal) > 0, "refusal {refusal} was never met");
+        }
     }
 }
 
@@ -517,23 +546,25 @@ fn the_bounds_of_the_geometry_with_buffers_that_fit() {
     let inside = [(8, 8, 16), (128, 8, 16), (8, 64, 128), (8, 8, 1), (22, 64, 1024), (23, 64, 1024), (128, 64, 1024), (9, 8, 24), (9, 8, 23)];
     let outside = [(7, 8, 8), (129, 8, 16), (8, 7, 14), (8, 65, 130), (8, 65, 16), (8, 8, 0), (23, 64, 1025), (128, 64, 1025)];
     let past_the_reserve = [(8, 8, 17), (8, 8, 24), (9, 8, 25), (9, 8, 32), (21, 64, 961)];
+    let on = |planes: &[u16], sizes: &[(u16, u16, u16)]| -> Vec<Geometry> {
+        sizes.iter().flat_map(|&(b, p, l)| planes.iter().map(move |n| Geometry::new(b, p, l).with_planes(*n))).collect()
+    };
     let mut maker = Maker::new(17);
-    for (b, p, l) in inside {
-        let g = Geometry::new(b, p, l);
+    for g in on(&[1, 2], &inside) {
         let blank = Store::blank(g);
         assert_eq!(maker.compare(&mut blank.clone(), &Call::Recover(g)), 2, "{g:?}");
         assert_eq!(maker.compare(&mut blank.clone(), &Call::Format(g)), 255, "{g:?}");
         let live = formatted(g);
         assert_eq!(maker.compare(&mut live.clone(), &Call::Recover(g)), 0, "{g:?}");
         assert_eq!(maker.compare(&mut live.clone(), &Call::Begin(5)), 0, "{g:?}");
-        assert_eq!(maker.compare(&mut live.clone(), &Call::Lone { lpn: l - 1, data: vec![7; DATA] }), 0, "{g:?}");
+        assert_eq!(maker.compare(&mut live.clone(), &Call::Lone { lpn: g.logical - 1, data: vec![7; DATA] }), 0, "{g:?}");
         for change in 0..6 {
             let mut w = live.clone();
             match change {
                 0 => w.array.push(255),
                 1 => w.array.truncate(g.array_len() - 1),
                 2 => w.map.push(UNMAPPED),
-                3 => w.map.truncate(l as usize - 1),
+                3 => w.map.truncate(g.logical as usize - 1),
                 4 => w.hold.push(0),
                 _ => w.hold.truncate(HOLD - 1),
             }
@@ -542,8 +573,7 @@ fn the_bounds_of_the_geometry_with_buffers_that_fit() {
             }
         }
     }
-    for (b, p, l) in [&outside[..], &past_the_reserve].concat() {
-        let g = Geometry::new(b, p, l);
+    for g in [on(&[1, 2], &outside), on(&[1, 2], &past_the_reserve), on(&[0, 3, 255, 257, u16::MAX], &inside[..2])].concat() {
         let mut w = Store::blank(g);
         w.map.fill(UNMAPPED);
         let mut state = State::decode(&formatted(Geometry::new(8, 8, 16)).state).expect("a state");
@@ -610,6 +640,32 @@ fn any_state_will_do_at_power_up() {
     }
 }
 
+/// The plane of the last data block page is a byte, 0 to 2; with any other the bytes encode no state. On one plane it is not looked at, and
+/// stays.
+#[test]
+fn the_last_plane_is_one_of_three() {
+    let mut maker = Maker::new(280);
+    for g in [1, 2].map(|planes| Geometry::new(8, 8, 16).with_planes(planes)) {
+        let mut live = formatted(g);
+        for call in [Call::Begin(5), Call::Write { id: 5, lpn: 4, data: vec![7; DATA] }] {
+            assert_eq!(Layer::Proved.call(&mut live, &call), 0);
+        }
+        for byte in 0..=255 {
+            live.state[280] = byte;
+            assert_eq!(State::decode(&live.state).map(|s| s.last), PLANES.get(byte as usize).copied());
+            for call in [Call::Lone { lpn: 3, data: vec![9; DATA] }, Call::Write { id: 5, lpn: 4, data: vec![8; DATA] }, Call::Commit(5)] {
+                let mut w = live.clone();
+                assert_eq!(maker.compare(&mut w, &call), if byte > 2 { 1 } else { 0 }, "{call:?}, byte {byte}");
+                // the first page is one of block 2, of the even plane; after an even one of block 3
+                let first = if g.planes == 2 && byte == 1 { 24 } else { 16 };
+                assert_eq!(w.array[first * PAGE..][..PAGE] == [255; PAGE], byte > 2, "{call:?}, byte {byte}");
+                let due = [byte, 1 + (first / 8 % 2) as u8][usize::from(g.planes == 2 && byte <= 2)];
+                assert_eq!(w.state[280], due, "{call:?}, byte {byte}");
+            }
+        }
+    }
+}
+
 /// Of each page that a place has room for, whether it is a drop is a byte, 0 or 1. With any other in any of the 8 × 64, past a count too, the
 /// bytes encode no state: every command answers 1, but for recover, and for format, which then begins anew.
 #[test]
@@ -630,7 +686,7 @@ fn a_page_is_a_write_or_a_drop() {
         let mut odd = live.clone();
         if n % 2 == 0 {
             // three strides of a format done: not gone on with where the bytes are no state
-            (odd.state[275], odd.state[276]) = (1, 3);
+            (odd.state[277], odd.state[278]) = (1, 3);
         }
         *drop_bytes(&mut odd.state).nth(n).expect("a page") = 2 + rng.below(254) as u8;
         assert_eq!(State::decode(&odd.state), None, "byte {n}");

@@ -1,5 +1,5 @@
-//! The longest change (document 02, point 1; docs/PAPERS.md), on both layers: the 41st page goes, the 42nd answers 10. A change of up to 64
-//! pages, as version 0.1 left it, is recovered in full and can still be committed or aborted.
+//! The longest change (document 02, point 1; docs/PAPERS.md), on both layers, on one plane and on two: the 41st page goes, the 42nd answers 10.
+//! On one plane a change of up to 64 pages, as version 0.1 left it, is recovered in full and can still be committed or aborted.
 mod common;
 
 use bokuhira::{Call, Geometry, Place, State, Store, CHANGE_PAGES, DATA, PAGE};
@@ -24,11 +24,17 @@ fn the_header_has_the_same_limit() {
     assert!(header.contains(&format!("#define BOKUHIRA_CHANGE_PAGES {CHANGE_PAGES} ")));
 }
 
+/// The two layers, each on one plane and on two.
+fn layers_and_planes() -> impl Iterator<Item = (Layer, u16)> {
+    LAYERS.into_iter().flat_map(|layer| [(layer, 1), (layer, 2)])
+}
+
 /// From a format on, whatever the size of the flash: no further page, and what was written is committed, recovered and read.
 #[test]
 fn the_41st_page_goes_the_42nd_is_too_long() {
-    for (layer, (blocks, pages, logical)) in LAYERS.iter().flat_map(|l| [(8, 32, 64), (11, 64, 320), (20, 8, 90)].map(|size| (*l, size))) {
-        let g = Geometry::new(blocks, pages, logical);
+    let sizes = [(8, 32, 64), (11, 64, 320), (20, 8, 90)];
+    for ((layer, planes), (blocks, pages, logical)) in layers_and_planes().flat_map(|l| sizes.map(|size| (l, size))) {
+        let g = Geometry::new(blocks, pages, logical).with_planes(planes);
         let mut store = formatted(g);
         assert_eq!(layer.call(&mut store, &Call::Begin(5)), 0);
         for n in 0..41 {
@@ -54,11 +60,12 @@ fn the_41st_page_goes_the_42nd_is_too_long() {
 }
 
 /// A place with any number of pages, as a state may say it: 10 from 41 on; commit and abort go up to 64, with all of them on the mark; 65 is
-/// no place.
+/// no place. On two planes 42 is none.
 #[test]
 fn a_place_may_have_more() {
-    let g = Geometry::new(8, 8, 16);
-    for (layer, n) in LAYERS.iter().flat_map(|l| (1..=ROOM + 1).map(|n| (*l, n))) {
+    for ((layer, planes), n) in layers_and_planes().flat_map(|l| (1..=ROOM + 1).map(move |n| (l, n))) {
+        let g = Geometry::new(8, 8, 16).with_planes(planes);
+        let most = if planes == 2 { CHANGE_PAGES } else { ROOM };
         let mut store = formatted(g);
         let mut state = State::decode(&store.state).expect("a state");
         state.places[0] = Place { id: 5, lpns: vec![3; n], ppns: vec![17; n - 1], drops: vec![false; n] };
@@ -67,9 +74,9 @@ fn a_place_may_have_more() {
         let before = store.clone();
         // of a write or a drop, and of a commit or an abort
         let (grows, closes) = match n {
+            _ if n > most => (1, 1),
             1..41 => (0, 0),
-            41..=ROOM => (10, 0),
-            _ => (1, 1),
+            _ => (10, 0),
         };
 
         let answer = write(layer, &mut store, 5, 4, "one more");
@@ -86,9 +93,10 @@ fn a_place_may_have_more() {
 
         let mut store = before.clone();
         assert_eq!(layer.call(&mut store, &Call::Commit(5)), closes, "{layer:?}: a commit with {n} pages");
-        if n <= ROOM {
+        if n <= most {
             let mark = &store.array[16 * PAGE..17 * PAGE];
             assert_eq!(u16::from_le_bytes([mark[514], mark[515]]) as usize, n, "{layer:?}: the mark's TxCnt");
+            assert_eq!(mark[525] as usize, if planes == 2 { n } else { 0 }, "{layer:?}: the mark's Reserved");
             assert_eq!(layer.read(&store, 3), Ok(&page("held")[..]));
         }
     }

@@ -1,14 +1,15 @@
 //! Replays traces of document 01 (docs/PAPERS.md), call by call, through the proved library and through the plain layer: answer, operation,
-//! array, map, hold and state, and the classes of pages. traces/README.md says what a line means; traces/counts pins how many steps each
+//! array, map, hold and state, the pages that run, and the classes of pages. traces/README.md says what a line means; traces/counts pins how many steps each
 //! trace compares.
 mod common;
 
-use bokuhira::{Call, Class, Geometry, Kind, Place, State, Store, Work, Zones, PAGE, STATE};
-use common::{due_bits, formatted, put, say, spare, whole_page, Layer, LAYERS};
+use bokuhira::{Call, Class, Geometry, Kind, Place, Plane, State, Store, Work, Zones, PAGE, STATE};
+use common::{due_bits, formatted, put, say, spare, whole_page, Done, Layer, Running, LAYERS};
 use std::collections::BTreeMap;
 use std::path::PathBuf;
 
 const KINDS: [(Kind, &str); 4] = [(Kind::Idle, "idle"), (Kind::Format, "format"), (Kind::Checkpoint, "checkpoint"), (Kind::Reclaim, "reclaim")];
+const PLANES: [(Plane, &str); 3] = [(Plane::Neither, "neither"), (Plane::Even, "even"), (Plane::Odd, "odd")];
 
 /// 64-bit FNV-1a.
 fn fnv(bytes: impl IntoIterator<Item = u8>) -> u64 {
@@ -56,8 +57,14 @@ fn number<T: TryFrom<u64>>(word: &str) -> T {
     T::try_from(n).unwrap_or_else(|_| panic!("{n} is too high"))
 }
 
+/// Three numbers are a geometry of one plane; a fourth is the planes.
+fn geometry_of(words: &[&str]) -> Geometry {
+    let planes = words.get(3).map_or(1, |word| number(word));
+    Geometry::new(number(words[0]), number(words[1]), number(words[2])).with_planes(planes)
+}
+
 fn call_of(words: &[&str]) -> Call {
-    let g = || Geometry::new(number(words[1]), number(words[2]), number(words[3]));
+    let g = || geometry_of(&words[1..]);
     match words[0] {
         "format" => Call::Format(g()),
         "recover" => Call::Recover(g()),
@@ -95,17 +102,32 @@ fn state_words(bytes: &[u8]) -> String {
     };
     let places: Vec<String> = s.places.iter().map(place).collect();
     let kind = KINDS.iter().find(|(k, _)| *k == s.work.kind).unwrap().1;
-    let Geometry { blocks, pages, logical } = s.geometry;
+    let last = PLANES.iter().find(|(p, _)| *p == s.last).unwrap().1;
+    let Geometry { blocks, pages, logical, planes } = s.geometry;
     let Zones { available, unavailable, free, pointer } = s.zones;
-    format!(
-        "{blocks} {pages} {logical} available={} unavailable={} free={} pointer={pointer} version={} checkpoint={} front={}:{} work={kind}:{} places={}",
-        list(&available), list(&unavailable), list(&free), s.version, s.checkpoint, s.front, s.first, s.work.stride, places.join(" ")
-    )
+    let zones = format!("available={} unavailable={} free={} pointer={pointer}", list(&available), list(&unavailable), list(&free));
+    let work = format!("front={}:{} work={kind}:{} last={last}", s.front, s.first, s.work.stride);
+    let places = places.join(" ");
+    format!("{blocks} {pages} {logical} {planes} {zones} version={} checkpoint={} {work} places={places}", s.version, s.checkpoint)
+}
+
+/// The words of a state with the planes and the last plane, which a trace may leave out: one plane, and neither.
+fn in_full<'a>(words: &[&'a str]) -> Vec<&'a str> {
+    let mut words = words.to_vec();
+    if words[3].contains('=') {
+        words.insert(3, "1");
+    }
+    if !words.iter().any(|w| w.starts_with("last=")) {
+        let places = words.iter().position(|w| w.starts_with("places=")).unwrap();
+        words.insert(places, "last=neither");
+    }
+    words
 }
 
 /// The bytes of a state that a trace writes; what stands past a count is 0.
 fn state_of(words: &[&str]) -> Vec<u8> {
-    let fields: BTreeMap<&str, &str> = words[3..].iter().filter_map(|w| w.split_once('=')).collect();
+    let words = in_full(words);
+    let fields: BTreeMap<&str, &str> = words[4..].iter().filter_map(|w| w.split_once('=')).collect();
     let zones = Zones {
         available: numbers(fields["available"]),
         unavailable: numbers(fields["unavailable"]),
@@ -115,6 +137,7 @@ fn state_of(words: &[&str]) -> Vec<u8> {
     let (front, first) = fields["front"].split_once(':').unwrap();
     let (kind, stride) = fields["work"].split_once(':').unwrap();
     let kind = KINDS.iter().find(|(_, name)| *name == kind).unwrap().0;
+    let last = PLANES.iter().find(|(_, name)| *name == fields["last"]).unwrap().0;
     let from = words.iter().position(|w| w.starts_with("places=")).unwrap();
     let place = |word: &&str| {
         let Some((id, rest)) = word.trim_start_matches("places=").split_once('[') else { return Place::default() };
@@ -126,38 +149,88 @@ fn state_of(words: &[&str]) -> Vec<u8> {
         Place { id: number(id), lpns, ppns: pairs.iter().map(|(_, ppn)| number(ppn)).collect(), drops }
     };
     let state = State {
-        geometry: Geometry::new(number(words[0]), number(words[1]), number(words[2])),
+        geometry: geometry_of(&words[..4]),
         zones,
         version: number(fields["version"]),
         checkpoint: number(fields["checkpoint"]),
         front: number(front),
         first: number(first),
         work: Work { kind, stride: number(stride) },
+        last,
         places: words[from..from + 8].iter().map(place).collect(),
     };
     state.encode()
 }
 
-/// Of the bits in which two arrays differ, in order, those that HOW picks are turned.
-fn cut(before: &[u8], after: &[u8], how: &[&str]) -> Vec<u8> {
-    let due = due_bits(before, after);
+/// Which of so many due bits HOW picks.
+fn turned(due: usize, how: &[&str]) -> Vec<bool> {
     let n = |i: usize| how[i].parse::<usize>().unwrap();
-    let mut array = before.to_vec();
-    for (at, (i, mask)) in due.iter().enumerate() {
-        let turned = match how[0] {
-            "none" => false,
-            "all" => true,
-            "every" => at % n(1) == n(2),
-            "first" => at < n(1),
-            "last" => at + n(1) >= due.len(),
-            "but" => at != n(1),
-            other => panic!("no cut {other}"),
-        };
-        if turned {
-            array[*i] ^= mask;
-        }
+    let picks = |at: usize| match how[0] {
+        "none" => false,
+        "all" => true,
+        "every" => at % n(1) == n(2),
+        "first" => at < n(1),
+        "last" => at + n(1) >= due,
+        "but" => at != n(1),
+        other => panic!("no cut {other}"),
+    };
+    (0..due).map(picks).collect()
+}
+
+/// A world, and the pages that run in it.
+#[derive(Clone)]
+struct World {
+    store: Store,
+    running: Vec<Running>,
+}
+
+impl World {
+    fn blank(g: Geometry) -> World {
+        World { store: Store::blank(g), running: Vec::new() }
     }
-    array
+
+    /// A call: its answer, and what runs after it.
+    fn call(&mut self, layer: Layer, call: &Call) -> u8 {
+        let before = self.store.clone();
+        let answer = layer.call(&mut self.store, call);
+        self.running = Done { call, answer, before: &before, after: &self.store.array }.after(&self.running);
+        answer
+    }
+
+    /// The pages that run, as a trace writes them.
+    fn running_words(&self) -> String {
+        let mut running: Vec<&Running> = self.running.iter().collect();
+        running.sort_by_key(|r| r.page);
+        running.iter().map(|r| format!("{}@{}", r.id, r.page)).collect::<Vec<_>>().join(",")
+    }
+
+    /// A cut: its parts are a call or `between`, HOW of the call's operation, or `early`, and each page that then runs with HOW. The error
+    /// names the pages that run where it names others.
+    fn cut(&mut self, layer: Layer, parts: &[&[&str]]) -> Result<(), String> {
+        let mut running = std::mem::take(&mut self.running);
+        let between = parts[0] == ["between"];
+        let (how, pages) = if between { (&["early"][..], &parts[1..]) } else { (parts[1], &parts[2..]) };
+        if how != ["early"] {
+            let call = &call_of(parts[0]);
+            let mut after = self.store.clone();
+            // a call that is cut gives no answer, but it does no more than it would have done
+            let answer = layer.call(&mut after, call);
+            running = Done { call, answer, before: &self.store, after: &after.array }.during(&running);
+            let due = due_bits(&self.store.array, &after.array);
+            for ((at, mask), _) in due.iter().zip(turned(due.len(), how)).filter(|(_, turned)| *turned) {
+                self.store.array[*at] ^= mask;
+            }
+        }
+        running.sort_by_key(|r| r.page);
+        if !pages.iter().map(|p| number::<usize>(p[0])).eq(running.iter().map(|r| r.page)) {
+            return Err(format!("these pages run: {:?}", running.iter().map(|r| r.page).collect::<Vec<_>>()));
+        }
+        for (r, page) in running.iter().zip(pages) {
+            let due = r.due_bits(&self.store.array).len();
+            r.cut(&mut self.store.array, &turned(due, &page[1..]));
+        }
+        Ok(())
+    }
 }
 
 /// Whether the arrays differ as the operation that a trace names says.
@@ -195,20 +268,28 @@ fn agree(got: String, said: &str) -> Result<(), String> {
     }
 }
 
+/// What is left, as a trace says it, with the state in full.
+fn left_in_full(said: &str) -> String {
+    let (digests, state) = said.split_once(" state ").unwrap();
+    format!("{digests} state {}", in_full(&state.split_whitespace().collect::<Vec<_>>()).join(" "))
+}
+
 /// What a call line leaves, where that is not what the trace says.
-fn call_line(layer: Layer, digests: &mut Digests, w: &mut Store, words: &[&str], said: &str) -> Result<(), String> {
-    let before = w.clone();
+fn call_line(layer: Layer, digests: &mut Digests, world: &mut World, words: &[&str], said: &str) -> Result<(), String> {
+    let before = world.store.clone();
+    let (said, running) = said.split_once(" running=").unwrap_or((said, ""));
     if words[0] == "format-to-the-end" {
         let Call::Format(g) = call_of(&[&["format"], &words[1..]].concat()) else { unreachable!() };
         let strides = g.blocks as usize + g.map_pages() + 1;
-        let answers: Vec<u8> = (0..strides).map(|_| layer.call(w, &Call::Format(g))).collect();
+        let answers: Vec<u8> = (0..strides).map(|_| world.call(layer, &Call::Format(g))).collect();
         if answers[..strides - 1].iter().any(|a| *a != 255) {
             return Err(format!("format answered {answers:?}"));
         }
-        return agree(format!("{} {}", answers[strides - 1], digests.left(w)), said);
+        return agree(format!("{} {}", answers[strides - 1], digests.left(&world.store)), &left_in_full(said));
     }
     let call = call_of(words);
-    let answer = layer.call(w, &call);
+    let answer = world.call(layer, &call);
+    let w = &world.store;
     if let Call::Read(lpn) = call {
         let part = layer.read(w, lpn);
         if *w != before || part.err().unwrap_or(0) != answer {
@@ -226,11 +307,14 @@ fn call_line(layer: Layer, digests: &mut Digests, w: &mut Store, words: &[&str],
     if !op_agrees(&before.array, &w.array, op, pages) {
         return Err(format!("another operation, {answer} {}", digests.left(w)));
     }
+    if world.running_words() != running {
+        return Err(format!("{answer}, running={}", world.running_words()));
+    }
     if due == "same" {
         return if *w == before { Ok(()) } else { Err(format!("not the same: {}", digests.left(w))) };
     }
     let found = digests.left(w);
-    if found != due {
+    if found != left_in_full(due) {
         return Err(format!("{answer} {found}"));
     }
     let state: Vec<&str> = due.split_once("state ").unwrap().1.split_whitespace().collect();
@@ -242,8 +326,10 @@ fn call_line(layer: Layer, digests: &mut Digests, w: &mut Store, words: &[&str],
 
 /// Runs a file; the calls, cuts and classes that were compared. The other lines only make a world.
 fn replay(layer: Layer, name: &str, text: &str) -> usize {
-    let mut w = Store::blank(Geometry::new(8, 8, 16));
-    let mut kept: Option<Store> = None;
+    let mut world = World::blank(Geometry::new(8, 8, 16));
+    let mut kept: Option<World> = None;
+    // between keep and back, until a cut: each call from the same world
+    let mut same = false;
     let mut digests = Digests::default();
     let mut compared = 0;
     for (at, line) in text.lines().enumerate() {
@@ -254,12 +340,13 @@ fn replay(layer: Layer, name: &str, text: &str) -> usize {
         let (call, said) = line.split_once(" = ").map_or((line, ""), |(c, s)| (c, s.trim()));
         let words: Vec<&str> = call.split_whitespace().collect();
         let n = |i: usize| words[i].parse::<usize>().expect("a number");
+        let w = &mut world.store;
         // nothing is found of a line that only makes a world
         let mut found = None;
         match words[0] {
-            "blank" => w = Store::blank(Geometry::new(number(words[1]), number(words[2]), number(words[3]))),
-            "keep" => kept = Some(w.clone()),
-            "back" => w = kept.take().expect("a world that was kept"),
+            "blank" => world = World::blank(geometry_of(&words[1..])),
+            "keep" => (kept, same) = (Some(world.clone()), true),
+            "back" => (world, same) = (kept.take().expect("a world that was kept"), false),
             "state" => w.state = state_of(&words[1..]),
             "map" => w.map[n(1)] = number(words[2]),
             "byte" => w.array[n(1)] = number(words[2]),
@@ -277,22 +364,22 @@ fn replay(layer: Layer, name: &str, text: &str) -> usize {
                 w.map.fill(number(value(1)));
                 w.hold.fill(number(value(2)));
                 w.state = common::lost_state(&mut common::Rng::new(at as u64));
+                (world.running, same) = (Vec::new(), false);
             }
             "cut" => {
-                let slash = words.iter().position(|x| *x == "/").unwrap();
-                let mut after = w.clone();
-                // a call that is cut gives no answer
-                let _ = layer.call(&mut after, &call_of(&words[1..slash]));
-                w.array = cut(&w.array, &after.array, &words[slash + 1..]);
-                found = Some(agree(format!("array={:016x}", digests.of_array(&w.array)), said));
+                let parts: Vec<&[&str]> = words[1..].split(|x| *x == "/").collect();
+                let cut = world.cut(layer, &parts);
+                let array = digests.of_array(&world.store.array);
+                found = Some(cut.and_then(|()| agree(format!("array={array:016x}"), said)));
+                same = false;
             }
             "class" => {
                 let class = layer.class(&w.array[n(1) * PAGE..(n(1) + 1) * PAGE]).expect("a page");
                 found = Some(agree(class_words(class), said));
             }
-            "torn" => found = Some(agree(layer.torn(&w).expect("a state").to_string(), said)),
-            _ if kept.is_some() => found = Some(call_line(layer, &mut digests, &mut w.clone(), &words, said)),
-            _ => found = Some(call_line(layer, &mut digests, &mut w, &words, said)),
+            "torn" => found = Some(agree(layer.torn(w).expect("a state").to_string(), said)),
+            _ if same => found = Some(call_line(layer, &mut digests, &mut world.clone(), &words, said)),
+            _ => found = Some(call_line(layer, &mut digests, &mut world, &words, said)),
         }
         match found {
             None => assert!(said.is_empty(), "{name}:{}: a line that compares nothing", at + 1),

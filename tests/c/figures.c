@@ -89,7 +89,7 @@ int main(void)
     uint8_t answer;
 
     do
-        answer = bokuhira_format(LENT, BLOCKS, PAGES, LOGICAL);
+        answer = bokuhira_format(LENT, BLOCKS, PAGES, LOGICAL, PLANES);
     while (answer == BOKUHIRA_MORE);
     must("format", answer);
     printf("%d x %d x %d, formatted: a change of %d pages in one go, of %d with room made", BLOCKS, PAGES, LOGICAL, longest(in_one_go), longest(save));

@@ -62,7 +62,7 @@ static void cut_format(int stride)
     memset(state, 0, sizeof state);
     do {
         memcpy(old_flash, flash, sizeof flash);
-        if (bokuhira_format(LENT, BLOCKS, PAGES, LOGICAL) == BOKUHIRA_DONE && stride > 0)
+        if (bokuhira_format(LENT, BLOCKS, PAGES, LOGICAL, PLANES) == BOKUHIRA_DONE && stride > 0)
             wrong("a format with fewer strides");
     } while (stride-- > 0);
     tear();
@@ -79,7 +79,7 @@ static void new_chip(void)
     while (cuts-- > 0 && answer == BOKUHIRA_NO_CHECKPOINT) {
         /* mostly where a page is programmed, or block 0 erased */
         cut_format(below(4) == 0 ? (int)below(BLOCKS) : below(4) == 0 ? 0 : BLOCKS + (int)below(BOKUHIRA_MAP_PAGES(LOGICAL) + 1));
-        answer = bokuhira_recover(LENT, BLOCKS, PAGES, LOGICAL);
+        answer = bokuhira_recover(LENT, BLOCKS, PAGES, LOGICAL, PLANES);
         if (!never_used() || (answer != BOKUHIRA_NO_CHECKPOINT && answer != BOKUHIRA_DONE))
             wrong("a first format that was cut is not taken for one");
     }
@@ -107,7 +107,7 @@ static void other(uint16_t blocks, uint16_t pages, uint16_t logical, int *answer
     memset(flash, (int)below(256), sizeof flash);
     memset(its_state, 0, sizeof its_state);
     do
-        answer = bokuhira_format(ITS, blocks, pages, logical);
+        answer = bokuhira_format(ITS, blocks, pages, logical, 1);
     while (answer == BOKUHIRA_MORE);
     must("format", answer);
     must("lone write", bokuhira_lone(ITS, data, sizeof data, (uint16_t)below(logical)));
@@ -160,9 +160,9 @@ static uint8_t used_flash(uint16_t logical)
     checkpoints(last + 1);
     change_5(0);
     memset(state, 0, sizeof state);
-    if (bokuhira_format(flash, sizeof flash, map, logical, hold, sizeof hold, state, sizeof state, BLOCKS, PAGES, logical) != BOKUHIRA_MORE)
+    if (bokuhira_format(flash, sizeof flash, map, logical, hold, sizeof hold, state, sizeof state, BLOCKS, PAGES, logical, PLANES) != BOKUHIRA_MORE)
         wrong("a format of one stride");
-    return bokuhira_recover(flash, sizeof flash, map, logical, hold, sizeof hold, state, sizeof state, BLOCKS, PAGES, logical);
+    return bokuhira_recover(flash, sizeof flash, map, logical, hold, sizeof hold, state, sizeof state, BLOCKS, PAGES, logical, PLANES);
 }
 
 int main(void)
@@ -178,7 +178,7 @@ int main(void)
 
     for (i = 0; i < sizeof sizes / sizeof *sizes; i++)
         for (j = 0; j < sizeof logicals / sizeof *logicals; j++)
-            if (BOKUHIRA_ARRAY(sizes[i][0], sizes[i][1]) == sizeof flash && BOKUHIRA_GEOMETRY(sizes[i][0], sizes[i][1], logicals[j])) {
+            if (BOKUHIRA_ARRAY(sizes[i][0], sizes[i][1]) == sizeof flash && BOKUHIRA_GEOMETRY(sizes[i][0], sizes[i][1], logicals[j], 1)) {
                 other(sizes[i][0], sizes[i][1], logicals[j], answers);
                 n++;
             }

@@ -14,6 +14,7 @@ SAME(available, BOKUHIRA_AT_AVAILABLE_COUNT, BOKUHIRA_AT_AVAILABLE + 3);
 SAME(unavailable, BOKUHIRA_AT_UNAVAILABLE_COUNT, BOKUHIRA_AT_UNAVAILABLE + BOKUHIRA_BLOCKS_MAX - 2);
 SAME(free_blocks, BOKUHIRA_AT_FREE_COUNT, BOKUHIRA_AT_FREE + BOKUHIRA_BLOCKS_MAX - 2);
 SAME(kind, BOKUHIRA_AT_KIND, BOKUHIRA_AT_FIRST + 1);
+SAME(plane, BOKUHIRA_AT_PLACES, BOKUHIRA_AT_PLANE + 1);
 SAME(place_drops, BOKUHIRA_PLACE_DROPS, BOKUHIRA_PLACE_PAGES + (BOKUHIRA_PLACE_PAGES - BOKUHIRA_PLACE_LOGICAL));
 SAME(place, BOKUHIRA_PLACE, BOKUHIRA_PLACE_DROPS + 64);
 SAME(state, BOKUHIRA_STATE, BOKUHIRA_AT_PLACES + BOKUHIRA_PLACES * BOKUHIRA_PLACE);
@@ -21,7 +22,7 @@ SAME(hold, BOKUHIRA_HOLD, BOKUHIRA_PLACES * BOKUHIRA_DATA);
 SAME(array, BOKUHIRA_ARRAY(8, 8), 33792);
 SAME(array_type, sizeof(BOKUHIRA_ARRAY(8, 8)), sizeof(size_t));
 
-#if BOKUHIRA_GEOMETRY(8, 8, 17) || !BOKUHIRA_GEOMETRY(128, 64, 1024) || BOKUHIRA_MAP_PAGES(257) != 2
+#if BOKUHIRA_GEOMETRY(8, 8, 17, 1) || BOKUHIRA_GEOMETRY(8, 8, 16, 3) || !BOKUHIRA_GEOMETRY(128, 64, 1024, 2) || BOKUHIRA_MAP_PAGES(257) != 2
 #error "the macros do not stand in #if"
 #endif
 
@@ -29,17 +30,17 @@ static uint8_t array[BOKUHIRA_ARRAY(BOKUHIRA_BLOCKS_MAX + 1, BOKUHIRA_PAGES_MAX 
 static uint16_t map[BOKUHIRA_LOGICAL_MAX + 1];
 
 /* Whether the library takes a geometry: recover finds no checkpoint in zeros. */
-static int taken(int blocks, int pages, int logical)
+static int taken(int blocks, int pages, int logical, int planes)
 {
     return bokuhira_recover(array, BOKUHIRA_ARRAY(blocks, pages), map, (size_t)logical, hold, sizeof hold, state, sizeof state, (uint16_t)blocks,
-                            (uint16_t)pages, (uint16_t)logical)
+                            (uint16_t)pages, (uint16_t)logical, (uint16_t)planes)
            == BOKUHIRA_NO_CHECKPOINT;
 }
 
-/* Whether the macro says the same of all logical pages that can matter. */
+/* Whether the macro says the same of all logical pages and planes that can matter. */
 static int agrees(int blocks, int pages)
 {
-    int most = (blocks - 6) * pages, tried[6], i, same = 1;
+    int most = (blocks - 6) * pages, tried[6], i, planes, same = 1;
 
     tried[0] = 0;
     tried[1] = 1;
@@ -49,7 +50,8 @@ static int agrees(int blocks, int pages)
     tried[5] = BOKUHIRA_LOGICAL_MAX + 1;
     for (i = 0; i < 6; i++)
         if (tried[i] >= 0 && tried[i] <= BOKUHIRA_LOGICAL_MAX + 1)
-            same = same && taken(blocks, pages, tried[i]) == BOKUHIRA_GEOMETRY(blocks, pages, tried[i]);
+            for (planes = 0; planes <= BOKUHIRA_PLANES_MAX + 1; planes++)
+                same = same && taken(blocks, pages, tried[i], planes) == BOKUHIRA_GEOMETRY(blocks, pages, tried[i], planes);
     return same;
 }
 

@@ -7,8 +7,8 @@ void ignore(uint8_t *array, uint16_t *map, uint8_t *hold, uint8_t *state, size_t
 
 void ignore(uint8_t *array, uint16_t *map, uint8_t *hold, uint8_t *state, size_t *at, int32_t *difference)
 {
-    bokuhira_format(LENT, 8, 8, 16);
-    bokuhira_recover(LENT, 8, 8, 16);
+    bokuhira_format(LENT, 8, 8, 16, 1);
+    bokuhira_recover(LENT, 8, 8, 16, 1);
     bokuhira_begin(LENT, 1);
     bokuhira_write(LENT, hold, 0, 1, 0);
     bokuhira_drop(LENT, 1, 0);

@@ -48,19 +48,30 @@ static const uint8_t *place(const uint8_t *in, uint32_t id)
 /* Whether so many bytes all read erased. */
 static int reads_erased(const uint8_t *at, size_t n) { return at[0] == 0xFF && memcmp(at, at + 1, n - 1) == 0; }
 
-/* The first clean page before the call: of the first available block that has one. */
-static int first_clean(void)
+/* The first clean page before the call: of the first available block that has one, of any plane (-1) or of this one (0 even, 1 odd). */
+static int first_clean_of(int plane)
 {
     int i, q;
 
     for (i = 0; i < old_state[BOKUHIRA_AT_AVAILABLE_COUNT]; i++) {
         const int block = old_state[BOKUHIRA_AT_AVAILABLE + i];
+        if (plane >= 0 && block % 2 != plane)
+            continue;
         for (q = PAGES; q > 0 && reads_erased(old_flash + (block * PAGES + q - 1) * BOKUHIRA_PAGE, BOKUHIRA_PAGE); q--)
             ;
         if (q < PAGES)
             return block * PAGES + q;
     }
     return -1;
+}
+
+/* On two planes of the other plane than the last, if it has one. */
+static int first_clean(void)
+{
+    const int last = old_state[BOKUHIRA_AT_PLANE];
+    const int page = PLANES == 2 && last != BOKUHIRA_PLANE_NEITHER ? first_clean_of(last == BOKUHIRA_PLANE_EVEN) : -1;
+
+    return page >= 0 ? page : first_clean_of(-1);
 }
 
 /* By the table, one line of it for each line here. */
@@ -161,8 +172,8 @@ static uint8_t carried_out(const struct call *c)
 
     memset(data, (int)below(256), sizeof data);
     switch (c->command) {
-    case FORMAT: return bokuhira_format(LENT, BLOCKS, PAGES, LOGICAL);
-    case RECOVER: return bokuhira_recover(LENT, BLOCKS, PAGES, LOGICAL);
+    case FORMAT: return bokuhira_format(LENT, BLOCKS, PAGES, LOGICAL, PLANES);
+    case RECOVER: return bokuhira_recover(LENT, BLOCKS, PAGES, LOGICAL, PLANES);
     case BEGIN: return bokuhira_begin(LENT, c->id);
     case WRITE: return bokuhira_write(LENT, data, sizeof data, c->id, c->lpn);
     case DROP: return bokuhira_drop(LENT, c->id, c->lpn);
@@ -236,11 +247,11 @@ int main(void)
         if (state[BOKUHIRA_AT_KIND] != BOKUHIRA_KIND_FORMAT && c.command != FORMAT && below(50) == 0) {
             tear();
             cuts++;
-            must("recover", bokuhira_recover(LENT, BLOCKS, PAGES, LOGICAL));
+            must("recover", bokuhira_recover(LENT, BLOCKS, PAGES, LOGICAL, PLANES));
         }
     }
-    printf("%d x %d x %d: %d calls, %d cuts: %d programs and %d erases found and told, %d erases of erased blocks told; "
+    printf("%d x %d x %d, planes: %d: %d calls, %d cuts: %d programs and %d erases found and told, %d erases of erased blocks told; "
            "%d formats, %d checkpoints, %d reclaims with their strides\n",
-           BLOCKS, PAGES, LOGICAL, CALLS, cuts, programs, erases, unseen, ended[FORMAT], ended[CHECKPOINT], ended[RECLAIM]);
+           BLOCKS, PAGES, LOGICAL, PLANES, CALLS, cuts, programs, erases, unseen, ended[FORMAT], ended[CHECKPOINT], ended[RECLAIM]);
     return 0;
 }

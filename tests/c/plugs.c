@@ -27,8 +27,8 @@
 #include "book.h"
 
 /* The devices, one a sequence: small ones, which checkpoint and reclaim all the time, and two larger, one of them with two map pages. */
-static const struct size { uint16_t blocks, pages, logical; } sizes[] = {
-    { 8, 8, 16 }, { 9, 8, 24 }, { 32, 16, 256 }, { 8, 8, 1 }, { 20, 8, 90 }, { 11, 64, 320 }, { 10, 9, 30 },
+static const struct size { uint16_t blocks, pages, logical, planes; } sizes[] = {
+    { 8, 8, 16, 1 }, { 9, 8, 24, 2 }, { 32, 16, 256, 1 }, { 8, 8, 1, 1 }, { 20, 8, 90, 2 }, { 11, 64, 320, 1 }, { 10, 9, 30, 1 }, { 8, 8, 16, 2 },
 };
 
 enum {
@@ -98,7 +98,7 @@ static const uint8_t *data_of(uint64_t n)
 
 #define LENT s->array, array_len(), s->ram.map, size.logical, s->ram.hold, sizeof s->ram.hold, s->ram.state, sizeof s->ram.state
 
-static uint8_t recover(void) { return bokuhira_recover(LENT, size.blocks, size.pages, size.logical); }
+static uint8_t recover(void) { return bokuhira_recover(LENT, size.blocks, size.pages, size.logical, size.planes); }
 
 /* A read: its answer, and whether it gives what the book has. */
 static int reads(const struct book *b, uint16_t lpn, uint8_t *answer)
@@ -126,7 +126,7 @@ static uint8_t make(struct call *c)
 {
     uint8_t answer;
     switch (c->command) {
-    case FORMAT: return bokuhira_format(LENT, size.blocks, size.pages, size.logical);
+    case FORMAT: return bokuhira_format(LENT, size.blocks, size.pages, size.logical, size.planes);
     case RECOVER: return recover();
     case BEGIN: return bokuhira_begin(LENT, c->id);
     case WRITE: return bokuhira_write(LENT, data_of(c->data), BOKUHIRA_DATA, c->id, c->lpn);
@@ -259,7 +259,8 @@ static const struct call *under_way; /* the call that the kill fell in, if any *
 static void differs(const char *what, ...)
 {
     va_list list;
-    printf("plugs: seed %llu, kill %ld, %d x %d x %d, under way: ", (unsigned long long)seed, number, size.blocks, size.pages, size.logical);
+    printf("plugs: seed %llu, kill %ld, %d x %d x %d, planes: %d, under way: ", (unsigned long long)seed, number, size.blocks, size.pages, size.logical,
+           size.planes);
     printf("%s", under_way ? names[under_way->command] : "no call");
     if (under_way && under_way->id != 0)
         printf(", identifier %lu", (unsigned long)under_way->id);

@@ -66,7 +66,7 @@ static uint8_t put(uint32_t id, uint16_t lpn, uint8_t byte) { return bokuhira_wr
 static uint8_t drop(uint32_t id, uint16_t lpn) { return bokuhira_drop(LENT, id, lpn); }
 static uint8_t lone(uint16_t lpn, uint8_t byte) { return bokuhira_lone(LENT, filled(byte), BOKUHIRA_DATA, lpn); }
 static uint8_t commit(uint32_t id) { return bokuhira_commit(LENT, id); }
-static uint8_t recover(void) { return bokuhira_recover(LENT, BLOCKS, PAGES, LOGICAL); }
+static uint8_t recover(void) { return bokuhira_recover(LENT, BLOCKS, PAGES, LOGICAL, 1); }
 
 /* A field of the state. */
 static uint32_t field(size_t at, int bytes)
@@ -108,8 +108,8 @@ static uint8_t any(int n, uint8_t *state, size_t state_len)
 {
 #define ON d.array, sizeof d.array, d.map, LOGICAL, d.hold, sizeof d.hold, state, state_len
     switch (n) {
-    case 0: return bokuhira_format(ON, BLOCKS, PAGES, LOGICAL);
-    case 1: return bokuhira_recover(ON, BLOCKS, PAGES, LOGICAL);
+    case 0: return bokuhira_format(ON, BLOCKS, PAGES, LOGICAL, 1);
+    case 1: return bokuhira_recover(ON, BLOCKS, PAGES, LOGICAL, 1);
     case 2: return bokuhira_begin(ON, 1);
     case 3: return bokuhira_write(ON, data, sizeof data, 1, 0);
     case 4: return bokuhira_drop(ON, 1, 0);
@@ -165,7 +165,7 @@ static void put_field(size_t at, uint32_t n)
 static void format(void)
 {
     uint8_t answer;
-    while ((answer = bokuhira_format(LENT, BLOCKS, PAGES, LOGICAL)) == BOKUHIRA_MORE)
+    while ((answer = bokuhira_format(LENT, BLOCKS, PAGES, LOGICAL, 1)) == BOKUHIRA_MORE)
         ;
     CHECK(answer == BOKUHIRA_DONE);
 }
@@ -230,15 +230,15 @@ static void *session(void *nothing)
     cut();
     REFUSED(BOKUHIRA_BAD_FRAME, begin(1));
     REFUSED(BOKUHIRA_NO_CHECKPOINT, recover());
-    REFUSED(BOKUHIRA_BAD_FRAME, bokuhira_format(LENT, 7, PAGES, LOGICAL));
+    REFUSED(BOKUHIRA_BAD_FRAME, bokuhira_format(LENT, 7, PAGES, LOGICAL, 1));
 
     /* format: a stride for each block, each map page and the zone page */
     for (i = 0; i < BLOCKS + BOKUHIRA_MAP_PAGES(LOGICAL); i++) {
-        CHECK(bokuhira_format(LENT, BLOCKS, PAGES, LOGICAL) == BOKUHIRA_MORE);
+        CHECK(bokuhira_format(LENT, BLOCKS, PAGES, LOGICAL, 1) == BOKUHIRA_MORE);
         CHECK(d.state[BOKUHIRA_AT_KIND] == BOKUHIRA_KIND_FORMAT && field(BOKUHIRA_AT_STRIDE, 2) == (uint32_t)i + 1);
         REFUSED(BOKUHIRA_BUSY, begin(1));
     }
-    CHECK(bokuhira_format(LENT, BLOCKS, PAGES, LOGICAL) == BOKUHIRA_DONE);
+    CHECK(bokuhira_format(LENT, BLOCKS, PAGES, LOGICAL, 1) == BOKUHIRA_DONE);
     CHECK(field(BOKUHIRA_AT_BLOCKS, 2) == BLOCKS && field(BOKUHIRA_AT_PAGES, 2) == PAGES && field(BOKUHIRA_AT_LOGICAL, 2) == LOGICAL);
     CHECK(blocks(BOKUHIRA_AT_AVAILABLE, BOKUHIRA_AT_AVAILABLE_COUNT, "\2\3\4") && blocks(BOKUHIRA_AT_FREE, BOKUHIRA_AT_FREE_COUNT, "\5\6\7"));
     CHECK(blocks(BOKUHIRA_AT_UNAVAILABLE, BOKUHIRA_AT_UNAVAILABLE_COUNT, "") && d.state[BOKUHIRA_AT_POINTER] == 5);

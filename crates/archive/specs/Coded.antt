@@ -28,7 +28,7 @@ use Rattle.sequence.specs.Refused.{refused-same, read-same}
 use Rattle.archive.specs.Lent.{Lent, bokuhira, takes, worldIn}
 use Rattle.archive.specs.Shaped.{shaped-after}
 
--- ---- the state that 2,878 bytes say is shaped
+-- ---- the state that 2,881 bytes say is shaped
 length-words : (n : ℕ) (xs : List ℕ) → length xs ≡ 2 * n → length (words xs) ≡ n
 unfolding words
 length-words zero [] h = refl
@@ -41,42 +41,44 @@ append-shaped : (ps : List Place) (p : Place) → PlacesShaped ps → PlaceShape
 append-shaped [] p h k = (k, tt)
 append-shaped (q ∷ ps) p h k = (h .0, append-shaped ps p (h .1) k)
 
-module _ (bs : List ℕ) (long : length bs ≡ 2878) where
+module _ (bs : List ℕ) (long : length bs ≡ 2881) where
   place-shaped : (i : ℕ) → i + 1 ≤ 8 → PlaceShaped (placeFrom bs i)
   unfolding placeFrom dropsFrom
   place-shaped i h = record {
-    lpns = length-words 64 _ (length-part (278 + 325 * i + 5) 128 bs (omega arith));
-    ppns = length-words 64 _ (length-part (278 + 325 * i + 133) 128 bs (omega arith));
-    drops = length-map (part (278 + 325 * i + 261) 64 bs) _ ∙ length-part (278 + 325 * i + 261) 64 bs (omega arith);
+    lpns = length-words 64 _ (length-part (281 + 325 * i + 5) 128 bs (omega arith));
+    ppns = length-words 64 _ (length-part (281 + 325 * i + 133) 128 bs (omega arith));
+    drops = length-map (part (281 + 325 * i + 261) 64 bs) _ ∙ length-part (281 + 325 * i + 261) 64 bs (omega arith);
   }
 
   places-shaped : (n : ℕ) → n ≤ 8 → (length (placesIn bs n) ≡ n) × PlacesShaped (placesIn bs n)
   unfolding placesIn
   places-shaped zero h = (refl, tt)
   places-shaped (suc n) h =
-      let k = places-shaped n (omega arith) in
-      (length-append (placesIn bs n) (placeFrom bs n ∷ []) ∙ (omega arith), append-shaped (placesIn bs n) (placeFrom bs n) (k .1) (place-shaped n (omega arith)))
+      let k = places-shaped n (omega arith) in (
+        length-append (placesIn bs n) (placeFrom bs n ∷ []) ∙ (omega arith),
+        append-shaped (placesIn bs n) (placeFrom bs n) (k .1) (place-shaped n (omega arith)),
+      )
 
   from-shaped : Shaped (stateFrom bs)
   unfolding stateFrom zonesFrom
   from-shaped =
       let k = places-shaped 8 (omega arith) in
       record {
-        available = length-part 6 3 bs (omega arith);
-        unavailable = length-part 10 126 bs (omega arith);
-        free = length-part 137 126 bs (omega arith);
+        available = length-part 8 3 bs (omega arith);
+        unavailable = length-part 12 126 bs (omega arith);
+        free = length-part 139 126 bs (omega arith);
         places = k .0;
         each = k .1;
       }
 
--- bytes that encode a state are 2,878
+-- bytes that encode a state are 2,881
 pub coded-sized : (bs : List ℕ) → encodes bs ≡ true → sized bs ≡ true
 unfolding encodes sized
-coded-sized bs e = and-left (eqb (length bs) 2878) _ e
+coded-sized bs e = and-left (eqb (length bs) 2881) _ e
 
-sized-long : (bs : List ℕ) → sized bs ≡ true → length bs ≡ 2878
+sized-long : (bs : List ℕ) → sized bs ≡ true → length bs ≡ 2881
 unfolding sized
-sized-long bs e = eqb-true (length bs) 2878 e
+sized-long bs e = eqb-true (length bs) 2881 e
 
 pub coded-shaped : (bs : List ℕ) → encodes bs ≡ true → Shaped (stateFrom bs)
 coded-shaped bs e = from-shaped bs (sized-long bs (coded-sized bs e))
@@ -141,8 +143,13 @@ module _ (w : World) (h : Shaped (w .state)) where
   kept c = go (refused (exec c w .answer)) refl
     where
       go : (t : Bool) → refused (exec c w .answer) ≡ t
-          → _≡_ {A = Result} (record { answer = exec c w .answer; array = exec c w .world .array; map = exec c w .world .map; hold = exec c w .world .hold; bytes = cond t (bytesOf (w .state)) (bytesOf (exec c w .world .state)) })
-          (resultFor (exec c w))
+          → _≡_ {A = Result} (record {
+            answer = exec c w .answer;
+            array = exec c w .world .array;
+            map = exec c w .world .map;
+            hold = exec c w .world .hold;
+            bytes = cond t (bytesOf (w .state)) (bytesOf (exec c w .world .state));
+          }) (resultFor (exec c w))
       go true e = rw (refused-same w c e)
       go false e = refl
 

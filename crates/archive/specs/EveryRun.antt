@@ -15,26 +15,26 @@ use Rattle.model.specs.World.{World, program, erase, refuse}
 use Rattle.model.specs.Frame.{lentOk, freshState}
 use Rattle.model.specs.Strides.{stridesDone, formatWorkOk, formatMore, formatLast, formatStride, planFormat}
 use Rattle.model.specs.Commands.{Call, format, recover, begin, write, dropPage, lone, commit, abort, read, checkpoint, reclaim, plan, carried, Outcome, exec}
-use Rattle.model.specs.Book.{Event, called}
-use Rattle.model.specs.Sequence.{Phase, live, dark, Allowed, isRecovery, cutArray, Step, Run, Formatting, Formatted}
+use Rattle.model.specs.Book.{Event, called, cutBetween}
+use Rattle.model.specs.Sequence.{Running, Phase, live, dark, Allowed, isRecovery, cutArray, earlyArray, Step, Run, Formatting, Formatted}
 use Rattle.model.specs.declared.Geometry.{Geometry}
 use Rattle.encoding.specs.Encoding.{bytesOf}
 use Rattle.encoding.specs.StateBack.{Shaped, state-back, coded-back, fresh-shaped}
 use Rattle.bokuhira.specs.Calls.{Result, worldOf, resultOf, startFrom, sized}
 use Rattle.bokuhira.specs.PowerUp.{blind}
-use Rattle.archive.specs.Lent.{Lent, bokuhira, lentIn, cutTells}
+use Rattle.archive.specs.Lent.{Lent, bokuhira, lentIn, cutTells, earlyTells, lentRuns}
 use Rattle.archive.specs.LentRuns.{LentPhase, on, off, LentAllowed, LentStep, LentRun, stridesSaid, LentFormatting, LentFormatted}
 use Rattle.archive.specs.Shaped.{shaped-after}
 use Rattle.archive.specs.Coded.{lentOf, resultFor, stored, coded-sized, call-does, does-answer, started-sized, started-other}
-use Rattle.archive.specs.Joined.{Says, cut-leaves, cut-tells}
+use Rattle.archive.specs.Joined.{Says, said-runs, early-leaves, cut-leaves, cut-tells, early-tells}
 
 -- ---- a phase as a caller has it
 abbrev pub phaseOf : Phase → LentPhase
-phaseOf (live w) = on (lentOf w)
+phaseOf (live w rs) = on (lentOf w) rs
 phaseOf (dark xs) = off xs
 
 abbrev pub ShapedPhase : Phase → Type 0
-ShapedPhase (live w) = Shaped (w .state)
+ShapedPhase (live w rs) = Shaped (w .state)
 ShapedPhase (dark xs) = Unit {0}
 
 -- ---- the slices of a world with the bytes of a fresh state: what a recover or a format may be handed in place of the world's own state
@@ -61,7 +61,7 @@ module _ (g : Geometry) (w : World) where
   from-same : (f : Found) → recoverFrom g w f .answer ≡ 0 → carried (recoverFrom g fresh f) fresh ≡ carried (recoverFrom g w f) w
   unfolding recoverFrom
   from-same nothing e = absurd (omega arith)
-  from-same (at k) e = go (loadOk g (entriesAt g (w .array) k) (zonesAt g (w .array) k)) (pagesGood (g .logical) (scannedAt g (w .array) k)) e
+  from-same (at k) e = go (loadOk g (entriesAt g (w .array) k) (zonesAt g (w .array) k)) (pagesGood (g .planes) (g .logical) (scannedAt g (w .array) k)) e
     where
       go : (s t : Bool) → cond (not s) (refuse w 3) (cond (not t) (refuse w 4) (recoverPlan g k w)) .answer ≡ 0
           → carried (cond (not s) (refuse fresh 3) (cond (not t) (refuse fresh 4) (recoverPlan g k fresh))) fresh
@@ -112,9 +112,10 @@ module _ (g : Geometry) (w : World) where
   unfolding exec plan carried planFormat formatStride formatMore formatLast
   refused-one r = go (lentOk g w && formatWorkOk g w (w .state .work)) (ltb done (g .blocks)) (ltb (done - g .blocks) (mapPages g)) r
     where
-      go : (t a b : Bool)
-          → refused (cond t (cond a (formatMore g done (erase done) w) (cond b (formatMore g done (program (done - g .blocks) (mapPage (blankMap g) (done - g .blocks) 1)) w) (formatLast g w))) (refuse w 1) .answer) ≡ true
-          → cond t (cond a (formatMore g done (erase done) w) (cond b (formatMore g done (program (done - g .blocks) (mapPage (blankMap g) (done - g .blocks) 1)) w) (formatLast g w))) (refuse w 1) .answer ≡ 1
+      go : (t a b : Bool) → refused (cond t (cond a (formatMore g done (erase done) w)
+          (cond b (formatMore g done (program (done - g .blocks) (mapPage (blankMap g) (done - g .blocks) 1)) w) (formatLast g w))) (refuse w 1) .answer) ≡ true
+          → cond t (cond a (formatMore g done (erase done) w)
+          (cond b (formatMore g done (program (done - g .blocks) (mapPage (blankMap g) (done - g .blocks) 1)) w) (formatLast g w))) (refuse w 1) .answer ≡ 1
       go true true b r = absurd (false≢true (unfold refused in r))
       go true false true r = absurd (false≢true (unfold refused in r))
       go true false false r = absurd (false≢true (unfold refused in r))
@@ -169,23 +170,46 @@ allowed-lent g checkpoint w l e a = tt
 allowed-lent g reclaim w l e a = tt
 
 -- ---- the steps
+-- what a caller has of a world says it
+itself : (w : World) → Shaped (w .state) → Says (lentOf w) w
+itself w h = record { is = refl; shaped = h }
+
 step-lent : (g : Geometry) (p : Phase) (e : Event) (q : Phase) → Step g p e q → ShapedPhase p → LentStep g (phaseOf p) e (phaseOf q) × ShapedPhase q
-step-lent g p e q (Step.call c w f a) h =
+step-lent g p e q (Step.call c w rs f a) h =
     let d = call-does w h c in
-    let a′ = allowed-lent g c w (lentOf w) (does-answer c (lentOf w) w d) a in
-    (subst (λ (r : Result). LentStep g (on (lentOf w)) (called c (r .answer)) (on (lentIn r))) (d .is) (LentStep.call c (lentOf w) f a′), d .shaped)
-step-lent g p e q (Step.cut c w lets f a) h =
-    let s : Says (lentOf w) w = record { is = refl; shaped = h } in
+    let a′ = allowed-lent g c w (lentOf w) (does-answer c (lentOf w) w d) a in (
+      subst (λ (ts : List Running). LentStep g (on (lentOf w) rs) (called c (exec c w .answer)) (on (lentOf (exec c w .world)) ts))
+          (said-runs (lentOf w) w (itself w h) c rs)
+          (subst (λ (r : Result). LentStep g (on (lentOf w) rs) (called c (r .answer)) (on (lentIn r) (lentRuns c (lentOf w) rs))) (d .is)
+          (LentStep.call c (lentOf w) rs f a′)),
+      d .shaped,
+    )
+step-lent g p e q (Step.cut c w rs lets parts f a) h =
+    let s = itself w h in
     let a′ = allowed-lent g c w (lentOf w) (does-answer c (lentOf w) w (call-does w h c)) a in (
-      subst (λ (t : Event). LentStep g (on (lentOf w)) t (off (cutArray c w lets))) (cut-tells (lentOf w) w s c lets)
-          (subst (λ (xs : List ℕ). LentStep g (on (lentOf w)) (cutTells c (lentOf w) lets) (off xs)) (cut-leaves (lentOf w) w s c lets)
-          (LentStep.cut c (lentOf w) lets f a′)),
+      subst (λ (t : Event). LentStep g (on (lentOf w) rs) t (off (cutArray c w rs lets parts))) (cut-tells (lentOf w) w s c rs lets parts)
+          (subst (λ (xs : List ℕ). LentStep g (on (lentOf w) rs) (cutTells c (lentOf w) rs lets parts) (off xs)) (cut-leaves (lentOf w) w s c rs lets parts)
+          (LentStep.cut c (lentOf w) rs lets parts f a′)),
       tt,
     )
-step-lent g p e q (Step.between w) h = (LentStep.between (lentOf w), tt)
+step-lent g p e q (Step.early c w rs parts f a) h =
+    let s = itself w h in
+    let a′ = allowed-lent g c w (lentOf w) (does-answer c (lentOf w) w (call-does w h c)) a in (
+      subst (λ (t : Event). LentStep g (on (lentOf w) rs) t (off (earlyArray w rs parts))) (early-tells (lentOf w) w s c)
+          (subst (λ (xs : List ℕ). LentStep g (on (lentOf w) rs) (earlyTells c (lentOf w)) (off xs)) (early-leaves (lentOf w) w s rs parts)
+          (LentStep.early c (lentOf w) rs parts f a′)),
+      tt,
+    )
+step-lent g p e q (Step.between w rs parts) h = (
+  subst (λ (xs : List ℕ). LentStep g (on (lentOf w) rs) cutBetween (off xs)) (early-leaves (lentOf w) w (itself w h) rs parts)
+      (LentStep.between (lentOf w) rs parts),
+  tt,
+)
 step-lent g p e q (Step.back w r) h =
-    let k : bokuhira (recover g) (anew g w) ≡ resultFor (exec (recover g) w) = recover-anew g w ∙ stored (bytesOf (freshState g)) (exec (recover g) w) (unfold refused in rw r) in (
-      subst (λ (t : Result). LentStep g (off (w .array)) (called (recover g) 0) (on (lentIn t))) k (LentStep.back (anew g w) (ap (λ (t : Result). t .answer) k ∙ r)),
+    let k : bokuhira (recover g) (anew g w) ≡ resultFor (exec (recover g) w)
+    = recover-anew g w ∙ stored (bytesOf (freshState g)) (exec (recover g) w) (unfold refused in rw r) in (
+      subst (λ (t : Result). LentStep g (off (w .array)) (called (recover g) 0) (on (lentIn t) [])) k
+          (LentStep.back (anew g w) (ap (λ (t : Result). t .answer) k ∙ r)),
       subst (λ (o : Outcome). Shaped (o .world .state)) (recover-same g w r) (shaped-after (fresh g w) (fresh-shaped g) (recover g)),
     )
 step-lent g p e q (Step.failed c w i f a r) h =
@@ -221,8 +245,11 @@ formatting-lent g v (Formatting.more w f a) =
 formatted-lent : (g : Geometry) (w : World) → Formatted g w → LentFormatted g (lentOf w) × Shaped (w .state)
 formatted-lent g v (Formatted.finished w f a) =
     let i = formatting-lent g w f in
-    let d = call-does w (i .1) (format g) in
-    (subst (λ (t : Result). LentFormatted g (lentIn t)) (d .is) (LentFormatted.finished (lentOf w) (i .0) (does-answer (format g) (lentOf w) w d ∙ a)), d .shaped)
+    let d = call-does w (i .1) (format g) in (
+      subst (λ (t : Result). LentFormatted g (lentIn t)) (d .is) (LentFormatted.finished (lentOf w) (i .0) (does-answer (format g) (lentOf w) w d ∙ a)),
+      d .shaped,
+    )
 
-pub every-run : (g : Geometry) (w : World) (es : List Event) (p : Phase) → Formatted g w → Run g (live w) es p → LentFormatted g (lentOf w) × LentRun g (on (lentOf w)) es (phaseOf p)
-every-run g w es p f r = let i = formatted-lent g w f in (i .0, run-lent g (live w) es p r (i .1))
+pub every-run : (g : Geometry) (w : World) (es : List Event) (p : Phase) → Formatted g w → Run g (live w []) es p
+    → LentFormatted g (lentOf w) × LentRun g (on (lentOf w) []) es (phaseOf p)
+every-run g w es p f r = let i = formatted-lent g w f in (i .0, run-lent g (live w []) es p r (i .1))

@@ -13,15 +13,17 @@ use Rattle.model.specs.World.{World}
 use Rattle.model.specs.Frame.{lentOk, freshState}
 use Rattle.model.specs.Commands.{Call, format, recover, begin, write, dropPage, lone, commit, abort, read, checkpoint, reclaim, plan, carried, exec}
 use Rattle.model.specs.Book.{Event, called}
-use Rattle.model.specs.Sequence.{Phase, live, dark, Allowed, isRecovery, cutEvent, cutArray, Step, Run, Formatting, Formatted}
+use Rattle.model.specs.Sequence.{Running, runsAfter, Phase, live, dark, Allowed, isRecovery, cutEvent, cutArray, earlyEvent, earlyArray}
+use Rattle.model.specs.Sequence.{Step, Run, Formatting, Formatted}
 use Rattle.model.specs.declared.Geometry.{Geometry}
 use Rattle.arrays.specs.Tests.{decide, not-so}
 use Rattle.arrays.specs.Frame.{lent-lengths}
 use Rattle.encoding.specs.StateBack.{Shaped}
 use Rattle.bokuhira.specs.Calls.{worldOf, resultOf, sized}
-use Rattle.archive.specs.Lent.{Lent, bokuhira, lentIn, after, takes, worldIn, cutLeaves, cutTells}
+use Rattle.archive.specs.Lent.{Lent, bokuhira, lentIn, after, takes, worldIn, earlyLeaves, cutLeaves, cutTells, earlyTells, lentRuns}
 use Rattle.archive.specs.LentRuns.{LentPhase, on, off, LentAllowed, LentStep, LentRun, stridesSaid, LentFormatting, LentFormatted}
-use Rattle.archive.specs.Coded.{lentOf, call-does, takes-it, world-back, startOf, Does, does-answer, format-does, recover-does, startedOn, started-sized, started-other}
+use Rattle.archive.specs.Coded.{lentOf, call-does, takes-it, world-back, startOf, Does, does-answer, format-does}
+use Rattle.archive.specs.Coded.{recover-does, startedOn, started-sized, started-other}
 
 -- ---- the agreement
 -- what is lent is the world, its state as bytes
@@ -29,11 +31,11 @@ pub record Says (l : Lent) (w : World) : Type 0 where
   pub is : l ≡ lentOf w
   pub shaped : Shaped (w .state)
 
--- of phases
+-- of phases: the same pages run
 abbrev pub Agrees : LentPhase → Phase → Type 0
-Agrees (on l) (live w) = Says l w
-Agrees (on l) (dark xs) = ⊥
-Agrees (off xs) (live w) = ⊥
+Agrees (on l rs) (live w ts) = Says l w × (rs ≡ ts)
+Agrees (on l rs) (dark xs) = ⊥
+Agrees (off xs) (live w ts) = ⊥
 Agrees (off xs) (dark ys) = xs ≡ ys
 
 -- they agree after a call that does what the model's does
@@ -51,14 +53,27 @@ module _ (l : Lent) (w : World) (s : Says l w) where
   said-world : (c : Call) → worldIn c l ≡ w
   said-world c = ap (worldIn c) (s .is) ∙ world-back w (s .shaped) c
 
-  -- and a cut in it
-  pub cut-leaves : (c : Call) (lets : List ℕ) → cutLeaves c l lets ≡ cutArray c w lets
-  unfolding cutLeaves
-  cut-leaves c lets = rw (said-takes c, said-world c)
+  -- what runs after it
+  pub said-runs : (c : Call) (rs : List Running) → lentRuns c l rs ≡ runsAfter c w rs
+  unfolding lentRuns
+  said-runs c rs = rw (said-takes c, said-world c)
 
-  pub cut-tells : (c : Call) (lets : List ℕ) → cutTells c l lets ≡ cutEvent c w lets
+  -- a cut in it, or before it does anything
+  pub early-leaves : (rs : List Running) (parts : ℕ → List ℕ) → earlyLeaves l rs parts ≡ earlyArray w rs parts
+  unfolding earlyLeaves worldIn
+  early-leaves rs parts = ap (λ (v : World). earlyArray v rs parts) (said-world checkpoint)
+
+  pub cut-leaves : (c : Call) (rs : List Running) (lets : List ℕ) (parts : ℕ → List ℕ) → cutLeaves c l rs lets parts ≡ cutArray c w rs lets parts
+  unfolding cutLeaves
+  cut-leaves c rs lets parts = rw (said-takes c, said-world c)
+
+  pub cut-tells : (c : Call) (rs : List Running) (lets : List ℕ) (parts : ℕ → List ℕ) → cutTells c l rs lets parts ≡ cutEvent c w rs lets parts
   unfolding cutTells
-  cut-tells c lets = rw (said-takes c, said-world c)
+  cut-tells c rs lets parts = rw (said-takes c, said-world c)
+
+  pub early-tells : (c : Call) → earlyTells c l ≡ earlyEvent c w
+  unfolding earlyTells
+  early-tells c = rw (said-takes c, said-world c)
 
 -- what is allowed is the same where the answers are
 allowed-is : (g : Geometry) (c : Call) (l : Lent) (w : World) → bokuhira c l .answer ≡ exec c w .answer → LentAllowed g c l → Allowed g c w
@@ -75,9 +90,9 @@ allowed-is g checkpoint l w e a = tt
 allowed-is g reclaim l w e a = tt
 
 -- ---- a recover or a format after a cut
--- a world with no hold answers 1, as a call does with bytes that are not 2,878
+-- a world with no hold answers 1, as a call does with bytes that are not 2,881
 abbrev bare : List ℕ → World
-bare xs = worldOf xs [] [] (freshState (record { blocks = 0; pages = 0; logical = 0 }))
+bare xs = worldOf xs [] [] (freshState (record { blocks = 0; pages = 0; logical = 0; planes = 0 }))
 
 bare-lent : (g : Geometry) (xs : List ℕ) → lentOk g (bare xs) ≡ false
 bare-lent g xs = not-so (lentOk g (bare xs)) (λ e. omega (arith, lent-lengths g (bare xs) e .hold))
@@ -135,34 +150,51 @@ told : {c : Call} {m n : ℕ} → m ≡ n → called c n ≡ called c m
 told {c} e = ap (called c) (sym e)
 
 step-is : (g : Geometry) (p : LentPhase) (e : Event) (q : LentPhase) → LentStep g p e q → (p′ : Phase) → Agrees p p′ → Stepped g p′ e q
-step-is g p e q (LentStep.call c l f a) (live w) s =
-    let d = said-does l w s c in
+step-is g p e q (LentStep.call c l rs f a) (live w ts) s =
+    let d = said-does l w (s .0) c in
     let m = does-answer c l w d in
     record {
-      phase = live (exec c w .world);
-      step = subst (λ (t : Event). Step g (live w) t (live (exec c w .world))) (told m) (Step.call c w f (allowed-is g c l w m a));
-      agrees = does-says c l w d;
+      phase = live (exec c w .world) (runsAfter c w ts);
+      step = subst (λ (t : Event). Step g (live w ts) t (live (exec c w .world) (runsAfter c w ts))) (told m) (Step.call c w ts f (allowed-is g c l w m a));
+      agrees = (does-says c l w d, said-runs l w (s .0) c rs ∙ ap (runsAfter c w) (s .1));
     }
-step-is g p e q (LentStep.cut c l lets f a) (live w) s =
-    let m = does-answer c l w (said-does l w s c) in
+step-is g p e q (LentStep.cut c l rs lets parts f a) (live w ts) s =
+    let m = does-answer c l w (said-does l w (s .0) c) in
+    let tells : cutTells c l rs lets parts ≡ cutEvent c w ts lets parts
+    = cut-tells l w (s .0) c rs lets parts ∙ ap (λ (us : List Running). cutEvent c w us lets parts) (s .1) in
     record {
-      phase = dark (cutArray c w lets);
-      step = subst (λ (t : Event). Step g (live w) t (dark (cutArray c w lets))) (sym (cut-tells l w s c lets)) (Step.cut c w lets f (allowed-is g c l w m a));
-      agrees = cut-leaves l w s c lets;
+      phase = dark (cutArray c w ts lets parts);
+      step = subst (λ (t : Event). Step g (live w ts) t (dark (cutArray c w ts lets parts))) (sym tells)
+          (Step.cut c w ts lets parts f (allowed-is g c l w m a));
+      agrees = cut-leaves l w (s .0) c rs lets parts ∙ ap (λ (us : List Running). cutArray c w us lets parts) (s .1);
     }
-step-is g p e q (LentStep.between l) (live w) s = record { phase = dark (w .array); step = Step.between w; agrees = ap (λ (m : Lent). m .array) (s .is) }
+step-is g p e q (LentStep.early c l rs parts f a) (live w ts) s =
+    let m = does-answer c l w (said-does l w (s .0) c) in
+    record {
+      phase = dark (earlyArray w ts parts);
+      step = subst (λ (t : Event). Step g (live w ts) t (dark (earlyArray w ts parts))) (sym (early-tells l w (s .0) c))
+          (Step.early c w ts parts f (allowed-is g c l w m a));
+      agrees = early-leaves l w (s .0) rs parts ∙ ap (λ (us : List Running). earlyArray w us parts) (s .1);
+    }
+step-is g p e q (LentStep.between l rs parts) (live w ts) s = record {
+  phase = dark (earlyArray w ts parts);
+  step = Step.between w ts parts;
+  agrees = early-leaves l w (s .0) rs parts ∙ ap (λ (us : List Running). earlyArray w us parts) (s .1);
+}
 step-is g p e q (LentStep.back l r) (dark xs) s =
     let d = recover-does g l (unfold refused in rw r) in
     let w = startOf g l in
     record {
-      phase = live (exec (recover g) w .world);
-      step = subst (λ (ys : List ℕ). Step g (dark ys) (called (recover g) 0) (live (exec (recover g) w .world))) s (Step.back w (sym (does-answer (recover g) l w d) ∙ r));
-      agrees = does-says (recover g) l w d;
+      phase = live (exec (recover g) w .world) [];
+      step = subst (λ (ys : List ℕ). Step g (dark ys) (called (recover g) 0) (live (exec (recover g) w .world) [])) s
+          (Step.back w (sym (does-answer (recover g) l w d) ∙ r));
+      agrees = (does-says (recover g) l w d, refl);
     }
 step-is g p e q (LentStep.failed c l i f a r) (dark xs) s =
     let k = recovery-answers c l i in
     let w = k .world in
-    let t : Step g (dark (w .array)) (called c (exec c w .answer)) (dark (w .array)) = Step.failed c w i f (allowed-is g c l w (k .same) a) (rw (k .same) at r) in
+    let t : Step g (dark (w .array)) (called c (exec c w .answer)) (dark (w .array))
+    = Step.failed c w i f (allowed-is g c l w (k .same) a) (rw (k .same) at r) in
     record {
       phase = dark xs;
       step = subst (λ (ys : List ℕ). Step g (dark ys) (called c (bokuhira c l .answer)) (dark ys)) (k .array ∙ s)
@@ -172,15 +204,20 @@ step-is g p e q (LentStep.failed c l i f a r) (dark xs) s =
 step-is g p e q (LentStep.lost c l i f a) (dark xs) s =
     let k = recovery-answers c l i in
     let w = k .world in
-    record { phase = dark xs; step = subst (λ (ys : List ℕ). Step g (dark ys) e (dark ys)) (k .array ∙ s) (Step.lost c w i f (allowed-is g c l w (k .same) a)); agrees = s }
+    record {
+      phase = dark xs;
+      step = subst (λ (ys : List ℕ). Step g (dark ys) e (dark ys)) (k .array ∙ s) (Step.lost c w i f (allowed-is g c l w (k .same) a));
+      agrees = s;
+    }
 step-is g p e q (LentStep.again ys) (dark xs) s = record { phase = dark xs; step = Step.again xs; agrees = s }
-step-is g p e q (LentStep.call c l f a) (dark xs) s = absurd s
-step-is g p e q (LentStep.cut c l lets f a) (dark xs) s = absurd s
-step-is g p e q (LentStep.between l) (dark xs) s = absurd s
-step-is g p e q (LentStep.back l r) (live w) s = absurd s
-step-is g p e q (LentStep.failed c l i f a r) (live w) s = absurd s
-step-is g p e q (LentStep.lost c l i f a) (live w) s = absurd s
-step-is g p e q (LentStep.again ys) (live w) s = absurd s
+step-is g p e q (LentStep.call c l rs f a) (dark xs) s = absurd s
+step-is g p e q (LentStep.cut c l rs lets parts f a) (dark xs) s = absurd s
+step-is g p e q (LentStep.early c l rs parts f a) (dark xs) s = absurd s
+step-is g p e q (LentStep.between l rs parts) (dark xs) s = absurd s
+step-is g p e q (LentStep.back l r) (live w ts) s = absurd s
+step-is g p e q (LentStep.failed c l i f a r) (live w ts) s = absurd s
+step-is g p e q (LentStep.lost c l i f a) (live w ts) s = absurd s
+step-is g p e q (LentStep.again ys) (live w ts) s = absurd s
 
 -- ---- the facts
 -- a run

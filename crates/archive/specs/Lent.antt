@@ -6,7 +6,7 @@ use mathlib.Core.List.{List, []}
 use Rattle.model.specs.World.{World}
 use Rattle.model.specs.Commands.{Call, format, recover, begin, write, dropPage, lone, commit, abort, read, checkpoint, reclaim}
 use Rattle.model.specs.Book.{Event, cutIn}
-use Rattle.model.specs.Sequence.{cutEvent, cutArray}
+use Rattle.model.specs.Sequence.{Running, runsAfter, cutEvent, cutArray, earlyEvent, earlyArray}
 use Rattle.encoding.specs.Encoding.{encodes}
 use Rattle.bokuhira.specs.Calls.{Result, worldOf, worldFrom, called, startFrom, sized, started, Found, readCalled}
 
@@ -44,7 +44,7 @@ abbrev pub after : Call → Lent → Lent
 after c l = lentIn (bokuhira c l)
 
 -- ---- a cut in a call
--- whether the call takes the bytes for a state: format and recover any 2,878, the others those that encode one
+-- whether the call takes the bytes for a state: format and recover any 2,881, the others those that encode one
 unfoldable pub takes : Call → List ℕ → Bool
 takes (format g) bs = sized bs
 takes (recover g) bs = sized bs
@@ -72,11 +72,23 @@ worldIn (read lpn) l = worldFrom (l .array) (l .map) (l .hold) (l .bytes)
 worldIn checkpoint l = worldFrom (l .array) (l .map) (l .hold) (l .bytes)
 worldIn reclaim l = worldFrom (l .array) (l .map) (l .hold) (l .bytes)
 
--- "it alters only what that call programs or erases": the array with part of the operation that the call does on that world; none is done
--- where the bytes are not taken
-unfoldable pub cutLeaves : Call → Lent → List ℕ → List ℕ
-cutLeaves c l lets = cond (takes c (l .bytes)) (cutArray c (worldIn c l) lets) (l .array)
+-- before or between operations: the array with part of each page that runs
+unfoldable pub earlyLeaves : Lent → List Running → (ℕ → List ℕ) → List ℕ
+earlyLeaves l rs parts = earlyArray (worldFrom (l .array) (l .map) (l .hold) (l .bytes)) rs parts
+
+-- "it alters only what that call programs or erases", and what runs: the array with part of the operation that the call does on that world; none is
+-- done where the bytes are not taken
+unfoldable pub cutLeaves : Call → Lent → List Running → List ℕ → (ℕ → List ℕ) → List ℕ
+cutLeaves c l rs lets parts = cond (takes c (l .bytes)) (cutArray c (worldIn c l) rs lets parts) (earlyLeaves l rs parts)
 
 -- what is told of it
-unfoldable pub cutTells : Call → Lent → List ℕ → Event
-cutTells c l lets = cond (takes c (l .bytes)) (cutEvent c (worldIn c l) lets) (cutIn c false [] [])
+unfoldable pub cutTells : Call → Lent → List Running → List ℕ → (ℕ → List ℕ) → Event
+cutTells c l rs lets parts = cond (takes c (l .bytes)) (cutEvent c (worldIn c l) rs lets parts) (cutIn c false [] [])
+
+-- and of one before the call's operation begins
+unfoldable pub earlyTells : Call → Lent → Event
+earlyTells c l = cond (takes c (l .bytes)) (earlyEvent c (worldIn c l)) (cutIn c false [] [])
+
+-- ---- the pages that run when a call has answered: where the bytes are not taken it waits for nothing
+unfoldable pub lentRuns : Call → Lent → List Running → List Running
+lentRuns c l rs = cond (takes c (l .bytes)) (runsAfter c (worldIn c l) rs) rs

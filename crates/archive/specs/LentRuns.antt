@@ -8,20 +8,20 @@ use Rattle.model.specs.Answers.{refused}
 use Rattle.model.specs.Strides.{stridesDone}
 use Rattle.model.specs.Commands.{Call, format, recover, begin, write, dropPage, lone, commit, abort, read, checkpoint, reclaim}
 use Rattle.model.specs.Book.{Event, called, cutIn, cutBetween}
-use Rattle.model.specs.Sequence.{fits, isRecovery}
+use Rattle.model.specs.Sequence.{Running, fits, isRecovery}
 use Rattle.model.specs.declared.Geometry.{Geometry}
 use Rattle.bokuhira.specs.Calls.{startFrom}
-use Rattle.archive.specs.Lent.{Lent, bokuhira, after, cutLeaves, cutTells}
+use Rattle.archive.specs.Lent.{Lent, bokuhira, after, earlyLeaves, cutLeaves, cutTells, earlyTells, lentRuns}
 
--- on: "array, map, hold and state as the one before left them, which nobody else writes"; off: "the state is lost", from a cut until a recover
--- is done
+-- on: "array, map, hold and state as the one before left them, which nobody else writes", and the pages that run; off: "the state is lost", from a cut
+-- until a recover is done
 pub data LentPhase : Type 0 where
-  on : Lent → LentPhase
+  on : Lent → List Running → LentPhase
   off : List ℕ → LentPhase
 
 -- the array of a phase
 abbrev pub lentArray : LentPhase → List ℕ
-lentArray (on l) = l .array
+lentArray (on l rs) = l .array
 lentArray (off xs) = xs
 
 -- "every recover that format's geometry"; "A format refused with nothing changed may stand anywhere; any other starts a new sequence"
@@ -41,13 +41,18 @@ LentAllowed g reclaim l = Unit {0}
 -- what a call or a cut leads to
 pub data LentStep (g : Geometry) : LentPhase → Event → LentPhase → Type 0 where
   -- a call on what the one before left
-  call : (c : Call) (l : Lent) → fits c ≡ true → LentAllowed g c l → LentStep g (on l) (called c (bokuhira c l .answer)) (on (after c l))
+  call : (c : Call) (l : Lent) (rs : List Running) → fits c ≡ true → LentAllowed g c l
+      → LentStep g (on l rs) (called c (bokuhira c l .answer)) (on (after c l) (lentRuns c l rs))
   -- a cut in a call
-  cut : (c : Call) (l : Lent) (lets : List ℕ) → fits c ≡ true → LentAllowed g c l → LentStep g (on l) (cutTells c l lets) (off (cutLeaves c l lets))
+  cut : (c : Call) (l : Lent) (rs : List Running) (lets : List ℕ) (parts : ℕ → List ℕ) → fits c ≡ true → LentAllowed g c l
+      → LentStep g (on l rs) (cutTells c l rs lets parts) (off (cutLeaves c l rs lets parts))
+  -- a cut in a call before its operation begins
+  early : (c : Call) (l : Lent) (rs : List Running) (parts : ℕ → List ℕ) → fits c ≡ true → LentAllowed g c l
+      → LentStep g (on l rs) (earlyTells c l) (off (earlyLeaves l rs parts))
   -- a cut between two calls
-  between : (l : Lent) → LentStep g (on l) cutBetween (off (l .array))
+  between : (l : Lent) (rs : List Running) (parts : ℕ → List ℕ) → LentStep g (on l rs) cutBetween (off (earlyLeaves l rs parts))
   -- after a cut: a recover with any bytes, map and hold that is done
-  back : (l : Lent) → bokuhira (recover g) l .answer ≡ 0 → LentStep g (off (l .array)) (called (recover g) 0) (on (after (recover g) l))
+  back : (l : Lent) → bokuhira (recover g) l .answer ≡ 0 → LentStep g (off (l .array)) (called (recover g) 0) (on (after (recover g) l) [])
   -- or a recover or a format, so handed, that is refused
   failed : (c : Call) (l : Lent) → isRecovery c ≡ true → fits c ≡ true → LentAllowed g c l → refused (bokuhira c l .answer) ≡ true
       → LentStep g (off (l .array)) (called c (bokuhira c l .answer)) (off (l .array))

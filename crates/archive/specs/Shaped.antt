@@ -12,8 +12,11 @@ use Rattle.model.specs.Recovery.{pagesGood}
 use Rattle.model.specs.Recover.{entriesAt, zonesAt, scannedAt, recoveredState, recoverPlan, recoverFrom, planRecover}
 use Rattle.model.specs.World.{World, Op, none, Plan, refuse}
 use Rattle.model.specs.Frame.{freePlace, noPlace, lentOk, frameOk, gate, freshState}
-use Rattle.model.specs.Transactions.{unless, withPlace, withVersion, nextPage, spent, begun, planBegin, written, writePlan, addPlan, planWrite, gone, planDrop, lonePlan, planLone, markPlan, forgetPlan, planCommit, planAbort, readAnswer}
-use Rattle.model.specs.Strides.{withWork, withZones, withNumber, mapStride, zoneStride, pageStride, otherStride, firstStride, checkpointStride, isCheckpoint, planCheckpoint, isReclaim, picked, copyStride, freeStride, reclaimStride, planReclaim, stridesDone, formatWorkOk, formatMore, formatLast, formatStride, planFormat}
+use Rattle.model.specs.Transactions.{unless, withPlace, withVersion, withLast, nextPage, taking, spent, begun, planBegin, written, heldState, writePlan}
+use Rattle.model.specs.Transactions.{addPlan, planWrite, gone, planDrop, lonePlan, planLone, markPlan, forgetPlan, planCommit, planAbort, readAnswer}
+use Rattle.model.specs.Strides.{withWork, withZones, withNumber, mapStride, zoneStride, pageStride, otherStride, firstStride, checkpointStride, isCheckpoint}
+use Rattle.model.specs.Strides.{planCheckpoint, isReclaim, picked, copyStride, freeStride, reclaimStride, planReclaim, stridesDone, formatWorkOk, formatMore}
+use Rattle.model.specs.Strides.{formatLast, formatStride, planFormat}
 use Rattle.model.specs.Commands.{Call, format, recover, begin, write, dropPage, lone, commit, abort, read, checkpoint, reclaim, plan, carried, exec}
 use Rattle.model.specs.declared.Geometry.{Geometry}
 use Rattle.model.specs.declared.Place.{Place}
@@ -58,7 +61,7 @@ written-shaped p k lpn drop h = record {
     go true = h .ppns
     go false = length-set (p .ppns) (p .count - 1) k ∙ h .ppns
 
--- ---- a state with another place, version, work, zones or checkpoint number
+-- ---- a state with another place, version, last plane, work, zones or checkpoint number
 module _ (s : State) (h : Shaped s) where
   with-place : (i : ℕ) (p : Place) → (i < length (s .places) → PlaceShaped p) → Shaped (withPlace s i p)
   unfolding withPlace
@@ -73,6 +76,10 @@ module _ (s : State) (h : Shaped s) where
   with-version : (v : ℕ) → Shaped (withVersion s v)
   unfolding withVersion
   with-version v = record { available = h .available; unavailable = h .unavailable; free = h .free; places = h .places; each = h .each }
+
+  with-last : (b : ℕ) → Shaped (withLast s b)
+  unfolding withLast
+  with-last b = record { available = h .available; unavailable = h .unavailable; free = h .free; places = h .places; each = h .each }
 
   with-work : (f q : ℕ) (k : Work) → Shaped (withWork s f q k)
   unfolding withWork
@@ -116,10 +123,23 @@ module _ (w : World) (h : Shaped (w .state)) where
   unfolding planBegin
   leaves-begin id = leaves-gate false (λ f. search (leaves-cond, leaves-refuse, leaves-begun) depth 9)
 
+  -- the state when a page is programmed, and when a write may have programmed one: the same places
+  taking-shaped : Shaped (taking w)
+  taking-shaped = with-last (w .state) h _
+
+  held-shaped : (p : Place) → Shaped (heldState w p) × (heldState w p .places ≡ w .state .places)
+  unfolding heldState
+  held-shaped p = go (eqb (p .count) 0)
+    where
+      go : (t : Bool) → Shaped (cond t (w .state) (taking w)) × (cond t (w .state) (taking w) .places ≡ w .state .places)
+      go true = (h, refl)
+      go false = (taking-shaped, unfold withLast in refl)
+
   leaves-written : (i lpn : ℕ) (drop : Bool) (d : List ℕ) → Leaves (writePlan i (getD (w .state .places) i noPlace) lpn drop d w)
   unfolding writePlan
   leaves-written i lpn drop d =
-      record { shaped = with-place (w .state) h i _ (λ l. written-shaped _ (nextPage w) lpn drop (at-shaped (w .state .places) i (h .each) l)) }
+      let k = held-shaped (getD (w .state .places) i noPlace) in
+      record { shaped = with-place _ (k .0) i _ (λ l. written-shaped _ (nextPage w) lpn drop (at-shaped (w .state .places) i (h .each) (rw (k .1) at l))) }
 
   leaves-added : (id lpn : ℕ) (drop : Bool) (d : List ℕ) → Leaves (addPlan id lpn drop d w)
   unfolding addPlan
@@ -135,7 +155,7 @@ module _ (w : World) (h : Shaped (w .state)) where
 
   leaves-page : (lpn : ℕ) (d : List ℕ) → Leaves (lonePlan lpn d w)
   unfolding lonePlan
-  leaves-page lpn d = record { shaped = with-version (w .state) h _ }
+  leaves-page lpn d = record { shaped = with-version _ taking-shaped _ }
 
   leaves-lone : (lpn : ℕ) (d : List ℕ) → Leaves (planLone lpn d w)
   unfolding planLone
@@ -147,7 +167,7 @@ module _ (w : World) (h : Shaped (w .state)) where
 
   leaves-mark : (i : ℕ) (p : Place) → Leaves (markPlan i p w)
   unfolding markPlan
-  leaves-mark i p = record { shaped = with-place _ (with-version (w .state) h _) i freePlace (λ l. free-shaped) }
+  leaves-mark i p = record { shaped = with-place _ (with-version _ taking-shaped _) i freePlace (λ l. free-shaped) }
 
   leaves-commit : (id : ℕ) → Leaves (planCommit id w)
   unfolding planCommit
@@ -168,7 +188,7 @@ module _ (w : World) (h : Shaped (w .state)) where
 
   leaves-copy : (j : ℕ) → Leaves (copyStride j w)
   unfolding copyStride
-  leaves-copy j = record { shaped = with-work _ (with-version (w .state) h _) _ _ _ }
+  leaves-copy j = record { shaped = with-work _ (with-version _ taking-shaped _) _ _ _ }
 
   module _ (f : frameOk w ≡ true) where
     leaves-zones : (q i : ℕ) → Leaves (zoneStride q i w)
@@ -176,7 +196,10 @@ module _ (w : World) (h : Shaped (w .state)) where
     leaves-zones q i =
         let k = frame-in w f in
         let s = w .state in
-        record { shaped = with-number _ (with-zones _ (with-work s h _ _ _) _ (slide-shaped (s .geometry) (w .array) (s .places) (s .zones) (k .geometry) (k .zones))) _ }
+        record {
+          shaped = with-number _ (with-zones _ (with-work s h _ _ _) _
+              (slide-shaped (s .geometry) (w .array) (s .places) (s .zones) (k .geometry) (k .zones))) _;
+        }
 
     leaves-checkpointed : (q i : ℕ) → Leaves (pageStride q i w)
     unfolding pageStride
@@ -194,20 +217,24 @@ module _ (w : World) (h : Shaped (w .state)) where
       unfolding freeStride
       leaves-freed =
           let k = frame-in w f in
-          record { shaped = with-zones _ (with-work (w .state) h _ _ _) _ (freed-shaped (w .state .geometry) (w .state .zones) (w .map) b (k .geometry) (k .zones) p) }
+          record {
+            shaped = with-zones _ (with-work (w .state) h _ _ _) _ (freed-shaped (w .state .geometry) (w .state .zones) (w .map) b (k .geometry) (k .zones) p);
+          }
 
       leaves-block : Leaves (reclaimStride w (at b))
       unfolding reclaimStride
       leaves-block = search (leaves-cond, leaves-refuse, leaves-freed, leaves-copy) depth 9
 
-    leaves-pick : (r : Found) → Picked (w .state .zones) (w .map) (w .state .geometry .pages) 2 (2 + (w .state .geometry .blocks - 2)) r → Leaves (reclaimStride w r)
+    leaves-pick : (r : Found) → Picked (w .state .zones) (w .map) (w .state .geometry .pages) 2 (2 + (w .state .geometry .blocks - 2)) r
+        → Leaves (reclaimStride w r)
     unfolding reclaimStride
     leaves-pick nothing p = leaves-refuse 15
     leaves-pick (at b) p = leaves-block b p
 
   leaves-checkpoint : Leaves (planCheckpoint w)
   unfolding planCheckpoint
-  leaves-checkpoint = leaves-gate (isCheckpoint (w .state .work)) (λ f. leaves-cond (spent (w .state .checkpoint) 1) (leaves-refuse 13) (leaves-stride f (w .state .work)))
+  leaves-checkpoint =
+      leaves-gate (isCheckpoint (w .state .work)) (λ f. leaves-cond (spent (w .state .checkpoint) 1) (leaves-refuse 13) (leaves-stride f (w .state .work)))
 
   leaves-reclaim : Leaves (planReclaim w)
   unfolding planReclaim picked
@@ -242,8 +269,8 @@ module _ (w : World) (h : Shaped (w .state)) where
     leaves-from (at k) = go (loadOk g (entriesAt g (w .array) k) (zonesAt g (w .array) k)) refl
       where
         go : (t : Bool) → loadOk g (entriesAt g (w .array) k) (zonesAt g (w .array) k) ≡ t
-            → Leaves (cond (not t) (refuse w 3) (cond (not (pagesGood (g .logical) (scannedAt g (w .array) k))) (refuse w 4) (recoverPlan g k w)))
-        go true e = leaves-cond (not (pagesGood (g .logical) (scannedAt g (w .array) k))) (leaves-refuse 4) (leaves-loaded k e)
+            → Leaves (cond (not t) (refuse w 3) (cond (not (pagesGood (g .planes) (g .logical) (scannedAt g (w .array) k))) (refuse w 4) (recoverPlan g k w)))
+        go true e = leaves-cond (not (pagesGood (g .planes) (g .logical) (scannedAt g (w .array) k))) (leaves-refuse 4) (leaves-loaded k e)
         go false e = leaves-refuse 3
 
   leaves-format : (g : Geometry) → Leaves (planFormat g w)

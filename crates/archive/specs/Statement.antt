@@ -3,7 +3,7 @@
 use Prim.Native.Nat.{ℕ, _+_, _<_, _≤_}
 use mathlib.Core.Path.{_≡_}
 use mathlib.Core.Bool.{true}
-use mathlib.Core.List.{List}
+use mathlib.Core.List.{List, []}
 use lib.ListN.{length}
 use Rattle.model.specs.Lists.{part}
 use Rattle.model.specs.Commands.{recover}
@@ -38,19 +38,19 @@ pub record LentRecovers (g : Geometry) (b : Book) (l : Lent) : Type 0 where
 
 -- where no cut lost the state, each page already reads so: with it, every read within the list
 abbrev pub LentLive : Geometry → Book → LentPhase → Type 0
-LentLive g b (on l) = LentRight g b l
+LentLive g b (on l rs) = LentRight g b l
 LentLive g b (off xs) = Unit {0}
 
 -- what is claimed of a list of events that led from a format to phase p: of the array that it left, with any map and hold of the right lengths
--- and any 2,878 bytes; and of what is lent, where the state is not lost
+-- and any 2,881 bytes; and of what is lent, where the state is not lost
 pub record LentKept (g : Geometry) (es : List Event) (p : LentPhase) : Type 0 where
-  pub recovers : (map hold bs : List ℕ) → length map ≡ g .logical → length hold ≡ 4096 → length bs ≡ 2878
+  pub recovers : (map hold bs : List ℕ) → length map ≡ g .logical → length hold ≡ 4096 → length bs ≡ 2881
       → LentRecovers g (story (blank g) es) (record { array = lentArray p; map = map; hold = hold; bytes = bs })
   pub live : LentLive g (story (blank g) es) p
 
 -- Demand 3, of the bytes
 abbrev pub Demand3Bytes : Type 0
-Demand3Bytes = (g : Geometry) (l : Lent) (es : List Event) (p : LentPhase) → LentFormatted g l → LentRun g (on l) es p → LentKept g es p
+Demand3Bytes = (g : Geometry) (l : Lent) (es : List Event) (p : LentPhase) → LentFormatted g l → LentRun g (on l []) es p → LentKept g es p
 
 -- beside it: between two strides of that format every page is never written
 abbrev pub FormatReadsBytes : Type 0

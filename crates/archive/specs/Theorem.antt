@@ -1,8 +1,8 @@
 -- Demand 3 of what firmware links: the run of the C interface is a run of `model`, where demand 3 is proved, and what it says of a world holds of
 -- the world's bytes. Assumes nothing.
 use Prim.Native.Nat.{ℕ}
-use mathlib.Core.Path.{_≡_, sym, ap, _∙_, subst}
-use mathlib.Core.List.{List}
+use mathlib.Core.Path.{_≡_, refl, sym, ap, _∙_, subst}
+use mathlib.Core.List.{List, []}
 use lib.ListN.{length}
 use borrow.Author.Tests.{eq-eqb}
 use Rattle.model.specs.Answers.{refused}
@@ -30,15 +30,15 @@ world-right w h g b r = record { coded = coded-back (w .state) h; reads = λ lpn
 said-right : (l : Lent) (w : World) (g : Geometry) (b : Book) → Says l w → Reads g b w → LentRight g b l
 said-right l w g b s r = subst (LentRight g b) (sym (s .is)) (world-right w (s .shaped) g b r)
 
--- ---- a recovery with any 2,878 bytes
-module _ (g : Geometry) (b : Book) (l : Lent) (long : length (l .bytes) ≡ 2878) (k : Recovers g b (startOf g l)) where
+-- ---- a recovery with any 2,881 bytes
+module _ (g : Geometry) (b : Book) (l : Lent) (long : length (l .bytes) ≡ 2881) (k : Recovers g b (startOf g l)) where
   -- the world that it leads to
   abbrev found : World
   found = exec (recover g) (startOf g l) .world
 
   succeeds : bokuhira (recover g) l .answer ≡ 0
   unfolding bokuhira sized resultOf
-  succeeds = rw (started-sized recover g l (eq-eqb (length (l .bytes)) 2878 long)) (k .succeeds)
+  succeeds = rw (started-sized recover g l (eq-eqb (length (l .bytes)) 2881 long)) (k .succeeds)
 
   does : Does (recover g) l (startOf g l)
   does = recover-does g l (unfold refused in rw succeeds)
@@ -47,7 +47,8 @@ module _ (g : Geometry) (b : Book) (l : Lent) (long : length (l .bytes) ≡ 2878
   lent-recovers = record {
     succeeds = succeeds;
     right = said-right (after (recover g) l) found g b (record { is = ap lentIn (does .is); shaped = does .shaped }) (k .reads);
-    again = ap (λ (r : Result). bokuhira (recover g) (lentIn r)) (does .is) ∙ call-does found (does .shaped) (recover g) .is ∙ ap resultFor (k .again ∙ sym done) ∙ sym (does .is);
+    again = ap (λ (r : Result). bokuhira (recover g) (lentIn r)) (does .is) ∙ call-does found (does .shaped) (recover g) .is ∙ ap resultFor
+        (k .again ∙ sym done) ∙ sym (does .is);
   }
     where
       done : exec (recover g) (startOf g l) ≡ record { answer = 0; world = found }
@@ -55,16 +56,16 @@ module _ (g : Geometry) (b : Book) (l : Lent) (long : length (l .bytes) ≡ 2878
 
 -- ---- where phases agree
 same-array : (p : LentPhase) (p′ : Phase) → Agrees p p′ → arrayOf p′ ≡ lentArray p
-same-array (on l) (live w) s = sym (ap (λ (m : Lent). m .array) (s .is))
+same-array (on l rs) (live w ts) s = sym (ap (λ (m : Lent). m .array) (s .0 .is))
 same-array (off xs) (dark ys) s = sym s
-same-array (on l) (dark xs) s = absurd s
-same-array (off xs) (live w) s = absurd s
+same-array (on l rs) (dark xs) s = absurd s
+same-array (off xs) (live w ts) s = absurd s
 
 lent-live : (g : Geometry) (b : Book) (p : LentPhase) (p′ : Phase) → Agrees p p′ → LiveReads g b p′ → LentLive g b p
-lent-live g b (on l) (live w) s r = said-right l w g b s r
+lent-live g b (on l rs) (live w ts) s r = said-right l w g b (s .0) r
 lent-live g b (off xs) (dark ys) s r = tt
-lent-live g b (on l) (dark xs) s r = absurd s
-lent-live g b (off xs) (live w) s r = absurd s
+lent-live g b (on l rs) (dark xs) s r = absurd s
+lent-live g b (off xs) (live w ts) s r = absurd s
 
 lent-kept : (g : Geometry) (es : List Event) (p : LentPhase) (p′ : Phase) → Agrees p p′ → Kept g es p′ → LentKept g es p
 lent-kept g es p p′ s k = record {
@@ -79,14 +80,15 @@ lent-kept g es p p′ s k = record {
 pub demand3-bytes : Demand3Bytes
 demand3-bytes g l es p f r =
     let w = formatted-is g l f in
-    let j = run-is g (on l) es p r (live (w .0)) (w .1 .1) in
+    let j = run-is g (on l []) es p r (live (w .0) []) (w .1 .1, refl) in
     lent-kept g es p (j .phase) (j .agrees) (demand3 g (w .0) es (j .phase) (w .1 .0) (j .run))
 
--- and of every array that a sequence with changes of up to 64 pages left: the next bokuhira_recover, whatever it is handed
-pub former-bytes : (g : Geometry) (w : World) (es : List Event) (p : Phase) → Formatted g w → FormerRun g (live w) es p
-    → (map hold bs : List ℕ) → length map ≡ g .logical → length hold ≡ 4096 → length bs ≡ 2878
+-- and of every array that a sequence with changes of up to 64 pages left, on one plane: the next bokuhira_recover, whatever it is handed
+pub former-bytes : (g : Geometry) (w : World) (es : List Event) (p : Phase) → g .planes ≡ 1 → Formatted g w → FormerRun g (live w []) es p
+    → (map hold bs : List ℕ) → length map ≡ g .logical → length hold ≡ 4096 → length bs ≡ 2881
     → LentRecovers g (story (blank g) es) (record { array = arrayOf p; map = map; hold = hold; bytes = bs })
-former-bytes g w es p f r map hold bs wide deep long = lent-recovers g (story (blank g) es) _ long (former-kept g w es p f r .recovers map hold (startFrom g bs) wide deep)
+former-bytes g w es p one f r map hold bs wide deep long =
+    lent-recovers g (story (blank g) es) _ long (former-kept g w es p one f r .recovers map hold (startFrom g bs) wide deep)
 
 -- between two strides of the format every page is never written
 pub formatReads-bytes : FormatReadsBytes

@@ -28,7 +28,7 @@ use Rattle.arrays.specs.Scan.{Next, next-is}
 
 -- ---- a device as small as document 01 (docs/PAPERS.md) admits
 small : Geometry
-small = record { blocks = 8; pages = 8; logical = 16 }
+small = record { blocks = 8; pages = 8; logical = 16; planes = 1 }
 
 small-in : InGeometry small
 unfolding small geometryOk

@@ -16,6 +16,14 @@ module _ {A : Type 0} (e : A) where
   insert-last [] = here []
   insert-last (x ∷ xs) = there x (insert-last xs)
 
+  pub insert-middle : (xs ys : List A) → Insert e (xs ++ ys) (xs ++ (e ∷ ys))
+  insert-middle [] ys = here ys
+  insert-middle (x ∷ xs) ys = there x (insert-middle xs ys)
+
+  pub insert-append : {xs ys : List A} (zs : List A) → Insert e xs ys → Insert e (xs ++ zs) (ys ++ zs)
+  insert-append zs (here xs) = here (xs ++ zs)
+  insert-append zs (there x i) = there x (insert-append zs i)
+
   pub insert-length : {xs ys : List A} → Insert e xs ys → length ys ≡ suc (length xs)
   insert-length (here xs) = refl
   insert-length (there x i) = ap suc (insert-length i)

@@ -30,9 +30,9 @@ pub coded : (bs : List ℕ) (t : Bool) → t ≡ encodes bs → not t ≡ false 
 coded bs t e h = sym e ∙ not-false t h
 
 -- if so, they are as many as a state has
-pub coded-long : (bs : List ℕ) → encodes bs ≡ true → length bs ≡ 2878
+pub coded-long : (bs : List ℕ) → encodes bs ≡ true → length bs ≡ 2881
 unfolding encodes
-coded-long bs e = eqb-true (length bs) 2878 (and-left (eqb (length bs) 2878) _ e)
+coded-long bs e = eqb-true (length bs) 2881 (and-left (eqb (length bs) 2881) _ e)
 
 -- ---- the bytes after a reply
 -- it refuses
@@ -90,11 +90,11 @@ unfolding started
 unstarted c g xs map hold bs t e h = rw (← e, not-true t h)
 
 -- of as many as a state has
-pub long : (bs : List ℕ) (t : Bool) → t ≡ sized bs → not t ≡ false → length bs ≡ 2878
+pub long : (bs : List ℕ) (t : Bool) → t ≡ sized bs → not t ≡ false → length bs ≡ 2881
 unfolding sized
-long bs t e h = eqb-true (length bs) 2878 (sym e ∙ not-false t h)
+long bs t e h = eqb-true (length bs) 2881 (sym e ∙ not-false t h)
 
-pub start-met : (c : Geometry → Call) (g : Geometry) (xs map hold bs : List ℕ) (s t : State) (n r : ℕ) (ys map2 hold2 cs : List ℕ) → length bs ≡ 2878 → s ≡ startFrom g bs
+pub start-met : (c : Geometry → Call) (g : Geometry) (xs map hold bs : List ℕ) (s t : State) (n r : ℕ) (ys map2 hold2 cs : List ℕ) → length bs ≡ 2881 → s ≡ startFrom g bs
     → _≡_ {A = Outcome} (record { answer = n; world = worldOf ys map2 hold2 t }) (exec (c g) (worldOf xs map hold s))
     → (r ≡ n) × (cs ≡ cond (refused n) bs (bytesOf t))
     → _≡_ {A = Result} (record { answer = r; array = ys; map = map2; hold = hold2; bytes = cs }) (started c g xs map hold bs)
@@ -102,7 +102,7 @@ unfolding started sized
 start-met c g xs map hold bs s t n r ys map2 hold2 cs l e o f = rw (eq-eqb _ _ l) (replied (c g) xs map hold bs (startFrom g bs) s t n r ys map2 hold2 cs e o f)
 
 -- of a recover, with a fresh state for whatever the bytes say
-pub recover-met : (g : Geometry) (xs map hold bs : List ℕ) (s t : State) (n r : ℕ) (ys map2 hold2 cs : List ℕ) → length bs ≡ 2878 → s ≡ freshState g
+pub recover-met : (g : Geometry) (xs map hold bs : List ℕ) (s t : State) (n r : ℕ) (ys map2 hold2 cs : List ℕ) → length bs ≡ 2881 → s ≡ freshState g
     → _≡_ {A = Outcome} (record { answer = n; world = worldOf ys map2 hold2 t }) (exec (recover g) (worldOf xs map hold s))
     → (r ≡ n) × (cs ≡ cond (refused n) bs (bytesOf t))
     → _≡_ {A = Result} (record { answer = r; array = ys; map = map2; hold = hold2; bytes = cs }) (started recover g xs map hold bs)

@@ -59,7 +59,7 @@ startFrom g bs = cond (encodes bs) (stateFrom bs) (freshState g)
 
 -- as many bytes as a state has
 unfoldable pub sized : List ℕ → Bool
-sized bs = eqb (length bs) 2878
+sized bs = eqb (length bs) 2881
 
 -- such a call with its geometry: carried out on any bytes of that number, else a bad frame
 unfoldable pub started : (Geometry → Call) → Geometry → List ℕ → List ℕ → List ℕ → List ℕ → Result

@@ -48,7 +48,7 @@ module _ (g : Geometry) (xs map hold bs : List ℕ) (s t : State) where
   same-from nothing = same-refuse 2 refl
   same-from (at k) =
       same-cond (not (loadOk g (entriesAt g xs k) (zonesAt g xs k))) (same-refuse 3 refl)
-      (same-cond (not (pagesGood (g .logical) (scannedAt g xs k))) (same-refuse 4 refl) (same-recover k))
+      (same-cond (not (pagesGood (g .planes) (g .logical) (scannedAt g xs k))) (same-refuse 4 refl) (same-recover k))
 
   same-plan : Same (planRecover g w) (planRecover g v)
   unfolding planRecover lentOk refused
@@ -64,7 +64,7 @@ unfolding resultOf refused
 stored bs cs o e = rw e
 
 -- ---- the laws
-module _ (g : Geometry) (xs map hold bs cs : List ℕ) (h : length bs ≡ 2878) (k : length cs ≡ 2878) where
+module _ (g : Geometry) (xs map hold bs cs : List ℕ) (h : length bs ≡ 2881) (k : length cs ≡ 2881) where
   same-answer : exec (recover g) (worldOf xs map hold (startFrom g bs)) .answer ≡ exec (recover g) (worldOf xs map hold (startFrom g cs)) .answer
   unfolding resultOf
   same-answer = ap (λ (r : Result). r .answer) (blind g xs map hold bs (startFrom g bs) (startFrom g cs))

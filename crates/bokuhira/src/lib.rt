@@ -1,5 +1,5 @@
 // The commands for callers in C or Rust (include/bokuhira.h). The array, the map, the hold and the state, as bytes (crate `encoding`), are
-// lent as slices. Nothing is required of a caller. Format and recover take any 2,878 bytes for the state, since after power-up anything
+// lent as slices. Nothing is required of a caller. Format and recover take any 2,881 bytes for the state, since after power-up anything
 // stands there; to the other commands bytes that encode no state are a bad frame, answered 1. An answer is a number, 0 done, 255 more, else
 // the refusal's, and a refusal leaves every slice as it was. Beside the commands stands the class of a page, for whoever looks into an array.
 ghost use mathlib.Core.Path.{_≡_};
@@ -29,12 +29,12 @@ fn device(state: &[u8]) -> Device
 fn sized(state: &[u8]) -> bool
     ensures { λ r. ⌜ r ≡ sized (now (state .entry)) ⌝ }
 {
-    state.len() == 2878
+    state.len() == 2881
 }
 
 /// The device that a format starts from: of the state that the bytes say, or where they encode none, of a fresh one.
 fn starting(state: &[u8], g: Geometry) -> Device
-    requires { ⌜ length (now state) ≡ 2878 ⌝ }
+    requires { ⌜ length (now state) ≡ 2881 ⌝ }
     ensures { λ r. ⌜ r .state ≡ startFrom g (now (state .entry)) ⌝ }
 {
     if encoding::encodes(state) {
@@ -46,7 +46,7 @@ fn starting(state: &[u8], g: Geometry) -> Device
 
 /// The answer's number of a reply; unless it refuses, its state is stored.
 fn finish(state: &mut [u8], r: Reply) -> u8
-    requires { ⌜ length (now state) ≡ 2878 ⌝ }
+    requires { ⌜ length (now state) ≡ 2881 ⌝ }
     ensures { λ n. ⌜ (n ≡ number (r .answer)) × (now (state .exit) ≡ cond (refused (number (r .answer))) (now (state .entry)) (bytesOf (r .device .state))) ⌝ }
 {
     let a = r.answer;
@@ -62,7 +62,7 @@ fn finish(state: &mut [u8], r: Reply) -> u8
     n
 }
 
-/// One stride of a format. Any 2,878 bytes will do for the state.
+/// One stride of a format. Any 2,881 bytes will do for the state.
 #[no_mangle]
 pub extern "C" fn bokuhira_format(
     array: &mut [u8],
@@ -72,8 +72,9 @@ pub extern "C" fn bokuhira_format(
     blocks: u16,
     pages: u16,
     logical: u16,
+    planes: u16,
 ) -> u8
-    ensures { λ r. ⌜ _≡_ {A = Result} (record { answer = r; array = now (array .exit); map = now (map .exit); hold = now (hold .entry); bytes = now (state .exit) }) (started format (record { blocks = blocks; pages = pages; logical = logical }) (now (array .entry)) (now (map .entry)) (now (hold .entry)) (now (state .entry))) ⌝ }
+    ensures { λ r. ⌜ _≡_ {A = Result} (record { answer = r; array = now (array .exit); map = now (map .exit); hold = now (hold .entry); bytes = now (state .exit) }) (started format (record { blocks = blocks; pages = pages; logical = logical; planes = planes }) (now (array .entry)) (now (map .entry)) (now (hold .entry)) (now (state .entry))) ⌝ }
 {
     if !sized(state) {
         return 1;
@@ -82,12 +83,13 @@ pub extern "C" fn bokuhira_format(
         blocks,
         pages,
         logical,
+        planes,
     };
     let r = starting(state, g).format(array, map, hold, g);
     finish(state, r)
 }
 
-/// Makes map and state from what stands on the array. Any 2,878 bytes will do for the state: none is looked at.
+/// Makes map and state from what stands on the array. Any 2,881 bytes will do for the state: none is looked at.
 #[no_mangle]
 pub extern "C" fn bokuhira_recover(
     array: &[u8],
@@ -97,8 +99,9 @@ pub extern "C" fn bokuhira_recover(
     blocks: u16,
     pages: u16,
     logical: u16,
+    planes: u16,
 ) -> u8
-    ensures { λ r. ⌜ _≡_ {A = Result} (record { answer = r; array = now (array .entry); map = now (map .exit); hold = now (hold .entry); bytes = now (state .exit) }) (started recover (record { blocks = blocks; pages = pages; logical = logical }) (now (array .entry)) (now (map .entry)) (now (hold .entry)) (now (state .entry))) ⌝ }
+    ensures { λ r. ⌜ _≡_ {A = Result} (record { answer = r; array = now (array .entry); map = now (map .exit); hold = now (hold .entry); bytes = now (state .exit) }) (started recover (record { blocks = blocks; pages = pages; logical = logical; planes = planes }) (now (array .entry)) (now (map .entry)) (now (hold .entry)) (now (state .entry))) ⌝ }
 {
     if !sized(state) {
         return 1;
@@ -107,6 +110,7 @@ pub extern "C" fn bokuhira_recover(
         blocks,
         pages,
         logical,
+        planes,
     };
     let s = State::fresh(g);
     let d = Device { state: s };

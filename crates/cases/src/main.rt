@@ -39,7 +39,7 @@ fn formatted(array: &mut [u8], map: &mut [u16], hold: &[u8], g: Geometry) -> Dev
 }
 
 /// Opens a change and writes pages to it until a write is not done; a line with the pages that went and the answer to the next.
-fn written(device: Device, array: &mut [u8], map: &[u16], hold: &mut [u8]) {
+fn written(device: Device, array: &mut [u8], map: &[u16], hold: &mut [u8]) -> Device {
     io::write_all(1, b"pages written, answer to the next:");
     let data = [0u8; Spare::DATA];
     let r = device.begin(array, map, hold, 1);
@@ -55,10 +55,28 @@ fn written(device: Device, array: &mut [u8], map: &[u16], hold: &mut [u8]) {
             tell(pages);
             tell(answer);
             io::write_all(1, b"\n");
-            return;
+            return d;
         }
         pages += 1;
     }
+    d
+}
+
+/// Commits that change and recovers; a line with both answers and the page that logical page 0 then stands on.
+fn kept(device: Device, array: &mut [u8], map: &mut [u16], hold: &[u8], g: Geometry)
+    requires { ⌜ 0 < length (now map) ⌝ }
+{
+    io::write_all(1, b"commit, recover, page of logical page 0:");
+    let r = device.commit(array, map, hold, 1);
+    let d = r.device;
+    let a = r.answer;
+    tell(answers::number(a));
+    let r = d.recover(array, map, hold, g);
+    let a = r.answer;
+    tell(answers::number(a));
+    io::write_all(1, b" ");
+    io::print_decimal(1, map[0] as u64);
+    io::write_all(1, b"\n");
 }
 
 /// A line of four numbers.
@@ -99,19 +117,23 @@ fn strides(device: Device, array: &mut [u8], map: &[u16], hold: &[u8])
     }
 }
 
-/// Case l: the 41st page goes, the 42nd answers 10.
-fn case_l() {
-    io::write_all(1, b"case l\n");
+/// Case l: the 41st page goes, the 42nd answers 10; the change is committed and recovered.
+fn case_l(planes: u16) {
+    io::write_all(1, b"case l, planes: ");
+    io::print_decimal(1, planes as u64);
+    io::write_all(1, b"\n");
     let g = Geometry {
         blocks: 8,
         pages: 32,
         logical: 16,
+        planes,
     };
     let mut array = [0u8; 135168];
     let mut map = [0u16; 16];
     let mut hold = [0u8; State::HOLD];
     let d = formatted(&mut array, &mut map, &hold, g);
-    written(d, &mut array, &map, &mut hold);
+    let e = written(d, &mut array, &map, &mut hold);
+    kept(e, &mut array, &mut map, &hold, g);
 }
 
 /// Case m: with L = 16 and P = 8 the fifth checkpoint in all erases block 1 first. A byte of that block is made 0 before it, for the erase to be seen.
@@ -121,6 +143,7 @@ fn case_m() {
         blocks: 8,
         pages: 8,
         logical: 16,
+        planes: 1,
     };
     let mut array = [0u8; 33792];
     let mut map = [0u16; 16];
@@ -131,6 +154,7 @@ fn case_m() {
 }
 
 fn main() {
-    case_l();
+    case_l(1);
+    case_l(2);
     case_m();
 }

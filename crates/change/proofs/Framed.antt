@@ -1,15 +1,16 @@
 -- What refusal 1 leaves to the commands of a change: the lengths, the zone lists, and each place in range. Assumes nothing.
-use mathlib.Core.Path.{_≡_, refl}
-use mathlib.Core.Bool.{true, not, _&&_, _||_}
+use mathlib.Core.Path.{_≡_}
+use mathlib.Core.Bool.{Bool, true, false, not, cond, _&&_, _||_}
 use mathlib.Core.List.{List, [], _∷_}
 use Prim.Native.Nat.{ℕ, zero, suc, _-_, _≤_}
+use native.Mathlib.Omega.{arith}
 use lib.ListN.{length, getD, take}
 use lib.Dec.{leb, ltb, eqb}
-use borrow.Author.Tests.{leb-true}
+use borrow.Author.Tests.{le-leb, leb-true}
 use Rattle.model.specs.Lists.{all}
 use Rattle.model.specs.Geometry.{geometryOk, lengthsOk, mapOk, dataPage}
 use Rattle.model.specs.Zones.{zonesOk}
-use Rattle.model.specs.Frame.{noPlace, badId, placeOk, alone, placesOk, lentOk, frameOk}
+use Rattle.model.specs.Frame.{noPlace, badId, mostPages, placeOk, alone, placesOk, lentOk, frameOk}
 use Rattle.model.specs.declared.Geometry.{Geometry}
 use Rattle.model.specs.declared.Place.{Place}
 use Rattle.model.specs.declared.State.{State}
@@ -47,15 +48,25 @@ frame-in s xs map hold e =
 -- each place is in range, and so is the one past the end, which has no pages
 pub place-at : (g : Geometry) (ps : List Place) (i : ℕ) → placesOk g ps ≡ true → placeOk g (getD ps i noPlace) ≡ true
 unfolding placesOk
-place-at g [] i h = unfold placeOk badId all in refl
+place-at g [] i h = unfold placeOk badId all in rw (le-leb 0 (mostPages g) (omega arith))
 place-at g (p ∷ ps) zero h = and-left (placeOk g p) (alone p ps) (tails-head _ p ps h)
 place-at g (p ∷ ps) (suc i) h = place-at g ps i (tails-tail _ p ps h)
 
 -- the pages of a place that is in range
+most-few : (g : Geometry) → mostPages g ≤ 64
+unfolding mostPages
+most-few g = go (eqb (g .planes) 2)
+  where
+    go : (t : Bool) → cond t 41 64 ≤ 64
+    go true = omega arith
+    go false = omega arith
+
 module _ (g : Geometry) (p : Place) (h : placeOk g p ≡ true) where
   pub count-most : p .count ≤ 64
   unfolding placeOk
-  count-most = leb-true (p .count) 64 (and-left (leb (p .count) 64) _ h)
+  count-most =
+      let m = leb-true (p .count) (mostPages g) (and-left (leb (p .count) (mostPages g)) _ h) in
+      omega (arith, most-few g)
 
   pub pages-in : all (λ (l : ℕ). ltb l (g .logical)) (take (p .count) (p .lpns)) ≡ true
   unfolding placeOk
@@ -63,4 +74,4 @@ module _ (g : Geometry) (p : Place) (h : placeOk g p ≡ true) where
       let free = not (badId (p .id)) || (eqb (p .id) 0 && eqb (p .count) 0) in
       let pages = all (λ (l : ℕ). ltb l (g .logical)) (take (p .count) (p .lpns)) in
       let last = all (dataPage g) (take (p .count - 1) (p .ppns)) in
-      and-left pages last (and-right free (pages && last) (and-right (leb (p .count) 64) (free && (pages && last)) h))
+      and-left pages last (and-right free (pages && last) (and-right (leb (p .count) (mostPages g)) (free && (pages && last)) h))

@@ -21,6 +21,6 @@ unfolding dropsCoded
 drops-more xs at i t h e = rw (e, ← part-more xs at i h) (sym (all-more dropCoded (part at i xs) (getD xs (at + i) 0)))
 
 -- one more place
-pub places-more : (xs : List ℕ) (i : ℕ) (t d : Bool) → t ≡ placesCoded xs i → d ≡ dropsCoded (part (278 + 325 * i + 261) 64 xs) → (t && d) ≡ placesCoded xs (i + 1)
+pub places-more : (xs : List ℕ) (i : ℕ) (t d : Bool) → t ≡ placesCoded xs i → d ≡ dropsCoded (part (281 + 325 * i + 261) 64 xs) → (t && d) ≡ placesCoded xs (i + 1)
 unfolding placesCoded
 places-more xs i t d e f = rw (add-one, e, f)

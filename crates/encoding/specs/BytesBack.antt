@@ -9,14 +9,14 @@ use native.Mathlib.Omega.{arith}
 use lib.ListN.{length, take, drop, getD}
 use lib.Dec.{eqb}
 use lib.Seq.{take-add, drop-drop, drop-cons}
-use borrow.Author.Tests.{eqb-true, ltb-true}
+use borrow.Author.Tests.{eqb-true, ltb-true, leb-true}
 use Rattle.model.specs.Lists.{all, part}
 use Rattle.model.specs.Bytes.{le16, le32, bytes16, bytes32, words}
 use Rattle.model.specs.declared.Work.{Work}
 use Rattle.arrays.specs.Tests.{Is, eqb-cases, and-left, and-right}
 use Rattle.arrays.specs.Bytelist.{Bytes, bytes-take, bytes-drop}
 use Rattle.arrays.specs.Splice.{length-part, part-all}
-use Rattle.encoding.specs.Encoding.{zonesFrom, workFrom, dropsFrom, placeFrom, placesIn, stateFrom, workCoded, dropCoded, dropsCoded, placesCoded, encodes, each, zoneBytes, kindOf, strideOf, dropByte, dropBytes, placeBytes, bytesOf}
+use Rattle.encoding.specs.Encoding.{zonesFrom, workFrom, planeFrom, dropsFrom, placeFrom, placesIn, stateFrom, workCoded, planeCoded, dropCoded, dropsCoded, placesCoded, encodes, each, geometryBytes, zoneBytes, kindOf, strideOf, planeByte, dropByte, dropBytes, placeBytes, bytesOf}
 use Rattle.encoding.specs.Each.{each-append, each-one}
 
 -- ---- the n bytes of xs from a on
@@ -56,12 +56,12 @@ unfolding dropsCoded dropBytes dropsFrom all
 drops-back [] e = refl
 drops-back (y ∷ ys) e = rw (drop-back y (and-left (dropCoded y) _ e), drops-back ys (and-right (dropCoded y) _ e))
 
-place-coded : (xs : List ℕ) (n i : ℕ) → i < n → placesCoded xs n ≡ true → dropsCoded (part (278 + 325 * i + 261) 64 xs) ≡ true
+place-coded : (xs : List ℕ) (n i : ℕ) → i < n → placesCoded xs n ≡ true → dropsCoded (part (281 + 325 * i + 261) 64 xs) ≡ true
 unfolding placesCoded
 place-coded xs zero i h e = absurd (omega arith)
 place-coded xs (suc n) i h e = go (eqb-cases i n) (λ l. place-coded xs n i l (and-left (placesCoded xs n) _ e))
   where
-    go : Is i n → (i < n → dropsCoded (part (278 + 325 * i + 261) 64 xs) ≡ true) → dropsCoded (part (278 + 325 * i + 261) 64 xs) ≡ true
+    go : Is i n → (i < n → dropsCoded (part (281 + 325 * i + 261) 64 xs) ≡ true) → dropsCoded (part (281 + 325 * i + 261) 64 xs) ≡ true
     go (inl (k, _)) f = rw k (and-right (placesCoded xs n) _ e)
     go (inr (k, _)) f = f (omega arith)
 
@@ -80,6 +80,16 @@ work-back kind stride e = go (eqb kind 1) (eqb kind 2) (eqb stride 0) (eqb kind 
     go false false true true false ha hb hc hd hf e = (sym (hd refl), sym (hc refl))
     go false false true false false ha hb hc hd hf e = absurd (false≢true e)
     go false false false d f ha hb hc hd hf e = absurd (false≢true e)
+
+-- ---- a plane's byte
+plane-back : (x : ℕ) → planeCoded x ≡ true → planeByte (planeFrom x) ≡ x
+plane-back x e = go x (leb-true x 2 e)
+  where
+    go : (x : ℕ) → x ≤ 2 → planeByte (planeFrom x) ≡ x
+    go zero h = unfold planeFrom in refl
+    go (suc zero) h = unfold planeFrom in refl
+    go (suc (suc zero)) h = unfold planeFrom in refl
+    go (suc (suc (suc x))) h = absurd (omega arith)
 
 module _ (xs : List ℕ) where
   byte-tile : (k : ℕ) → k < length xs → Tile xs k 1 (getD xs k 0 ∷ [])
@@ -124,26 +134,26 @@ module _ (xs : List ℕ) where
     halves-tile : (a n : ℕ) → a + 2 * n ≤ length xs → Tile xs a (2 * n) (each bytes16 (words (part a (2 * n) xs)))
     halves-tile a n h = record { is = halves-words n (part a (2 * n) xs) (length-part a (2 * n) xs h) (part-bytes a (2 * n)) }
 
-    module _ (l : length xs ≡ 2878) where
+    module _ (l : length xs ≡ 2881) where
       -- ---- the zones, a place, the places
-      zones-tile : Tile xs 6 259 (zoneBytes (zonesFrom xs))
+      zones-tile : Tile xs 8 259 (zoneBytes (zonesFrom xs))
       unfolding zoneBytes zonesFrom
       zones-tile =
-          let one = join (record { is = refl }) (byte-tile 9 (omega arith)) refl in
-          let two = join (join one (record { is = refl }) refl) (byte-tile 136 (omega arith)) refl in
-          let three = join (join two (record { is = refl }) refl) (byte-tile 263 (omega arith)) refl in
-          join three (byte-tile 264 (omega arith)) refl
+          let one = join (record { is = refl }) (byte-tile 11 (omega arith)) refl in
+          let two = join (join one (record { is = refl }) refl) (byte-tile 138 (omega arith)) refl in
+          let three = join (join two (record { is = refl }) refl) (byte-tile 265 (omega arith)) refl in
+          join three (byte-tile 266 (omega arith)) refl
 
       module _ (d : placesCoded xs 8 ≡ true) where
-        place-tile : (i : ℕ) → i < 8 → Tile xs (278 + 325 * i) 325 (placeBytes (placeFrom xs i))
+        place-tile : (i : ℕ) → i < 8 → Tile xs (281 + 325 * i) 325 (placeBytes (placeFrom xs i))
         unfolding placeBytes placeFrom
         place-tile i h =
-            let one = join (word-tile (278 + 325 * i) (omega arith)) (byte-tile (278 + 325 * i + 4) (omega arith)) refl in
-            let two = join one (halves-tile (278 + 325 * i + 5) 64 (omega arith)) (omega arith) in
-            let three = join two (halves-tile (278 + 325 * i + 133) 64 (omega arith)) (omega arith) in
+            let one = join (word-tile (281 + 325 * i) (omega arith)) (byte-tile (281 + 325 * i + 4) (omega arith)) refl in
+            let two = join one (halves-tile (281 + 325 * i + 5) 64 (omega arith)) (omega arith) in
+            let three = join two (halves-tile (281 + 325 * i + 133) 64 (omega arith)) (omega arith) in
             join three (record { is = drops-back _ (place-coded xs 8 i h d) }) (omega arith)
 
-        places-tile : (n : ℕ) → n ≤ 8 → Tile xs 278 (325 * n) (each placeBytes (placesIn xs n))
+        places-tile : (n : ℕ) → n ≤ 8 → Tile xs 281 (325 * n) (each placeBytes (placesIn xs n))
         unfolding placesIn each part
         places-tile zero h = record { is = refl }
         places-tile (suc n) h =
@@ -153,15 +163,19 @@ module _ (xs : List ℕ) where
 
 -- ---- the law
 pub bytes-back : (xs : List ℕ) → encodes xs ≡ true → Bytes xs → bytesOf (stateFrom xs) ≡ xs
-unfolding encodes bytesOf stateFrom
+unfolding encodes bytesOf geometryBytes stateFrom
 bytes-back xs e b =
-    let l = eqb-true (length xs) 2878 (and-left (eqb (length xs) 2878) _ e) in
-    let c = and-right (eqb (length xs) 2878) _ e in
-    let w = work-back (getD xs 275 0) (le16 xs 276) (and-left (workCoded (getD xs 275 0) (le16 xs 276)) _ c) in
-    let d = and-right (workCoded (getD xs 275 0) (le16 xs 276)) _ c in
-    let one = join (join (half-tile xs b 0 (omega arith)) (half-tile xs b 2 (omega arith)) refl) (half-tile xs b 4 (omega arith)) refl in
-    let two = join (join (join one (zones-tile xs b l) refl) (word-tile xs b 265 (omega arith)) refl) (word-tile xs b 269 (omega arith)) refl in
-    let three = join (join two (byte-tile xs 273 (omega arith)) refl) (byte-tile xs 274 (omega arith)) refl in
-    let four = join (join three (byte-tile xs 275 (omega arith)) refl) (half-tile xs b 276 (omega arith)) refl in
-    let all = join four (places-tile xs b l d 8 (omega arith)) refl in
-    rw (w .0, w .1) (all .is ∙ part-all 2878 xs l)
+    let l = eqb-true (length xs) 2881 (and-left (eqb (length xs) 2881) _ e) in
+    let c = and-right (eqb (length xs) 2881) _ e in
+    let w = work-back (getD xs 277 0) (le16 xs 278) (and-left (workCoded (getD xs 277 0) (le16 xs 278)) _ c) in
+    let p = and-right (workCoded (getD xs 277 0) (le16 xs 278)) _ c in
+    let q = plane-back (getD xs 280 0) (and-left (planeCoded (getD xs 280 0)) _ p) in
+    let d = and-right (planeCoded (getD xs 280 0)) _ p in
+    let zero = join (join (half-tile xs b 0 (omega arith)) (half-tile xs b 2 (omega arith)) refl) (half-tile xs b 4 (omega arith)) refl in
+    let one = join zero (half-tile xs b 6 (omega arith)) refl in
+    let two = join (join (join one (zones-tile xs b l) refl) (word-tile xs b 267 (omega arith)) refl) (word-tile xs b 271 (omega arith)) refl in
+    let three = join (join two (byte-tile xs 275 (omega arith)) refl) (byte-tile xs 276 (omega arith)) refl in
+    let four = join (join three (byte-tile xs 277 (omega arith)) refl) (half-tile xs b 278 (omega arith)) refl in
+    let five = join four (byte-tile xs 280 (omega arith)) refl in
+    let all = join five (places-tile xs b l d 8 (omega arith)) refl in
+    rw (w .0, w .1, q) (all .is ∙ part-all 2881 xs l)

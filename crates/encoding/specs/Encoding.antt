@@ -1,15 +1,18 @@
--- A state as 2,878 bytes, and the state that such bytes say. Where each field stands is said in src/lib.rt.
+-- A state as 2,881 bytes, and the state that such bytes say. Where each field stands is said in src/lib.rt.
 use mathlib.Core.Path.{_≡_}
 use Prim.Native.Nat.{ℕ, zero, suc, _+_, _*_, _≤_}
 use mathlib.Core.Bool.{Bool, true, false, cond, _&&_, _||_}
 use mathlib.Core.List.{List, [], _∷_, _++_, map}
 use lib.ListN.{length, getD}
-use lib.Dec.{eqb, ltb}
+use lib.Dec.{leb, eqb, ltb}
 use Rattle.model.specs.Lists.{all, part, splice}
 use Rattle.model.specs.Bytes.{le16, le32, bytes16, bytes32, words}
+use Rattle.model.specs.declared.Geometry.{Geometry}
 use Rattle.model.specs.declared.Place.{Place}
 use Rattle.model.specs.declared.Zones.{Zones}
 use Rattle.model.specs.declared.State.{State}
+use Rattle.model.specs.declared.Plane.{Plane}
+use Rattle.model.specs.declared.Plane.the-variants.{Neither, Even, Odd}
 use Rattle.model.specs.declared.Work.{Work}
 use Rattle.model.specs.declared.Work.the-variants.{Idle, Format, Checkpoint, Reclaim}
 
@@ -18,18 +21,22 @@ use Rattle.model.specs.declared.Work.the-variants.{Idle, Format, Checkpoint, Re
 unfoldable pub zonesFrom : List ℕ → Zones
 zonesFrom xs =
     record {
-      available = part 6 3 xs;
-      na = getD xs 9 0;
-      unavailable = part 10 126 xs;
-      nu = getD xs 136 0;
-      free = part 137 126 xs;
-      nf = getD xs 263 0;
-      pointer = getD xs 264 0;
+      available = part 8 3 xs;
+      na = getD xs 11 0;
+      unavailable = part 12 126 xs;
+      nu = getD xs 138 0;
+      free = part 139 126 xs;
+      nf = getD xs 265 0;
+      pointer = getD xs 266 0;
     }
 
 -- the work of a kind and a stride number
 unfoldable pub workFrom : ℕ → ℕ → Work
 workFrom kind stride = cond (eqb kind 1) (Format stride) (cond (eqb kind 2) (Checkpoint stride) (cond (eqb kind 3) Reclaim Idle))
+
+-- the plane that a byte says
+unfoldable pub planeFrom : ℕ → Plane
+planeFrom x = cond (eqb x 1) Even (cond (eqb x 2) Odd Neither)
 
 -- the drops: which pages drop their logical page, a byte each
 unfoldable pub dropsFrom : List ℕ → List Bool
@@ -39,11 +46,11 @@ dropsFrom xs = map (λ (x : ℕ). eqb x 1) xs
 unfoldable pub placeFrom : List ℕ → ℕ → Place
 placeFrom xs i =
     record {
-      id = le32 xs (278 + 325 * i);
-      count = getD xs (278 + 325 * i + 4) 0;
-      lpns = words (part (278 + 325 * i + 5) 128 xs);
-      ppns = words (part (278 + 325 * i + 133) 128 xs);
-      drops = dropsFrom (part (278 + 325 * i + 261) 64 xs);
+      id = le32 xs (281 + 325 * i);
+      count = getD xs (281 + 325 * i + 4) 0;
+      lpns = words (part (281 + 325 * i + 5) 128 xs);
+      ppns = words (part (281 + 325 * i + 133) 128 xs);
+      drops = dropsFrom (part (281 + 325 * i + 261) 64 xs);
     }
 
 -- the first n places
@@ -55,19 +62,24 @@ placesIn xs (suc n) = placesIn xs n ++ (placeFrom xs n ∷ [])
 unfoldable pub stateFrom : List ℕ → State
 stateFrom xs =
     record {
-      geometry = record { blocks = le16 xs 0; pages = le16 xs 2; logical = le16 xs 4 };
+      geometry = record { blocks = le16 xs 0; pages = le16 xs 2; logical = le16 xs 4; planes = le16 xs 6 };
       zones = zonesFrom xs;
-      version = le32 xs 265;
-      checkpoint = le32 xs 269;
-      front = getD xs 273 0;
-      first = getD xs 274 0;
-      work = workFrom (getD xs 275 0) (le16 xs 276);
+      version = le32 xs 267;
+      checkpoint = le32 xs 271;
+      front = getD xs 275 0;
+      first = getD xs 276 0;
+      work = workFrom (getD xs 277 0) (le16 xs 278);
+      last = planeFrom (getD xs 280 0);
       places = placesIn xs 8;
     }
 
 -- a kind of work, with a stride number if it is a format or a checkpoint
 unfoldable pub workCoded : ℕ → ℕ → Bool
 workCoded kind stride = eqb kind 1 || (eqb kind 2 || (eqb stride 0 && (eqb kind 0 || eqb kind 3)))
+
+-- a byte that says a plane: 0, 1 or 2
+abbrev pub planeCoded : ℕ → Bool
+planeCoded x = leb x 2
 
 -- bytes that say whether pages drop: 0 or 1, each of them
 abbrev pub dropCoded : ℕ → Bool
@@ -79,11 +91,11 @@ dropsCoded xs = all dropCoded xs
 -- those of the first n places
 unfoldable pub placesCoded : List ℕ → ℕ → Bool
 placesCoded xs zero = true
-placesCoded xs (suc n) = placesCoded xs n && dropsCoded (part (278 + 325 * n + 261) 64 xs)
+placesCoded xs (suc n) = placesCoded xs n && dropsCoded (part (281 + 325 * n + 261) 64 xs)
 
 -- whether bytes encode a state
 unfoldable pub encodes : List ℕ → Bool
-encodes xs = eqb (length xs) 2878 && (workCoded (getD xs 275 0) (le16 xs 276) && placesCoded xs 8)
+encodes xs = eqb (length xs) 2881 && (workCoded (getD xs 277 0) (le16 xs 278) && (planeCoded (getD xs 280 0) && placesCoded xs 8))
 
 -- ---- to bytes
 -- the bytes of each, one after the other
@@ -91,6 +103,10 @@ module _ {A : Type 0} where
   unfoldable pub each : (A → List ℕ) → List A → List ℕ
   each f [] = []
   each f (x ∷ xs) = f x ++ each f xs
+
+-- the geometry
+unfoldable pub geometryBytes : Geometry → List ℕ
+geometryBytes g = bytes16 (g .blocks) ++ bytes16 (g .pages) ++ bytes16 (g .logical) ++ bytes16 (g .planes)
 
 -- the zones
 unfoldable pub zoneBytes : Zones → List ℕ
@@ -110,6 +126,12 @@ strideOf (Format k) = k
 strideOf (Checkpoint k) = k
 strideOf Reclaim = 0
 
+-- a plane
+abbrev pub planeByte : Plane → ℕ
+planeByte Neither = 0
+planeByte Even = 1
+planeByte Odd = 2
+
 -- a drop, and drops one after the other
 abbrev pub dropByte : Bool → ℕ
 dropByte true = 1
@@ -125,9 +147,8 @@ placeBytes p = bytes32 (p .id) ++ (p .count ∷ []) ++ each bytes16 (p .lpns) ++
 -- the state
 unfoldable pub bytesOf : State → List ℕ
 bytesOf s =
-    bytes16 (s .geometry .blocks) ++ bytes16 (s .geometry .pages) ++ bytes16 (s .geometry .logical) ++ zoneBytes (s .zones)
-    ++ bytes32 (s .version) ++ bytes32 (s .checkpoint) ++ (s .front ∷ []) ++ (s .first ∷ [])
-    ++ (kindOf (s .work) ∷ []) ++ bytes16 (strideOf (s .work)) ++ each placeBytes (s .places)
+    geometryBytes (s .geometry) ++ zoneBytes (s .zones) ++ bytes32 (s .version) ++ bytes32 (s .checkpoint) ++ (s .front ∷ []) ++ (s .first ∷ [])
+    ++ (kindOf (s .work) ∷ []) ++ bytes16 (strideOf (s .work)) ++ (planeByte (s .last) ∷ []) ++ each placeBytes (s .places)
 
 -- ---- bytes laid among others: of xs, the n bytes from a on are replaced by ys
 pub record Laid (xs : List ℕ) (a n : ℕ) (ys now : List ℕ) : Type 0 where

@@ -14,10 +14,12 @@ use Rattle.model.specs.declared.Geometry.{Geometry}
 use Rattle.model.specs.declared.Place.{Place}
 use Rattle.model.specs.declared.Zones.{Zones}
 use Rattle.model.specs.declared.State.{State}
+use Rattle.model.specs.declared.Plane.{Plane}
+use Rattle.model.specs.declared.Plane.the-variants.{Neither, Even, Odd}
 use Rattle.model.specs.declared.Work.{Work}
 use Rattle.model.specs.declared.Work.the-variants.{Idle, Format, Checkpoint, Reclaim}
 use Rattle.arrays.specs.Tests.{and-both}
-use Rattle.encoding.specs.Encoding.{zonesFrom, workFrom, dropsFrom, placeFrom, placesIn, stateFrom, workCoded, dropsCoded, placesCoded, encodes, each, zoneBytes, kindOf, strideOf, dropByte, dropBytes, placeBytes, bytesOf}
+use Rattle.encoding.specs.Encoding.{zonesFrom, workFrom, planeFrom, dropsFrom, placeFrom, placesIn, stateFrom, workCoded, planeCoded, dropsCoded, placesCoded, encodes, each, geometryBytes, zoneBytes, kindOf, strideOf, planeByte, dropByte, dropBytes, placeBytes, bytesOf}
 
 -- ---- lists as long as the types have them
 pub record PlaceShaped (p : Place) : Type 0 where
@@ -101,7 +103,18 @@ length-drops : (ds : List Bool) → length (dropBytes ds) ≡ length ds
 unfolding dropBytes
 length-drops ds = length-map ds dropByte
 
--- ---- a work, the zones, a place, the places
+-- ---- a plane, a work, the zones, a place, the places
+plane-read : (k : Plane) → planeFrom (planeByte k) ≡ k
+unfolding planeFrom
+plane-read Neither = refl
+plane-read Even = refl
+plane-read Odd = refl
+
+plane-coded : (k : Plane) → planeCoded (planeByte k) ≡ true
+plane-coded Neither = refl
+plane-coded Even = refl
+plane-coded Odd = refl
+
 work-read : (w : Work) → workFrom (kindOf w) (strideOf w) ≡ w
 unfolding workFrom
 work-read Idle = refl
@@ -116,7 +129,7 @@ work-coded (Format k) = refl
 work-coded (Checkpoint k) = refl
 work-coded Reclaim = refl
 
-zones-read : {xs : List ℕ} (z : Zones) (r : List ℕ) → length (z .available) ≡ 3 → length (z .unavailable) ≡ 126 → length (z .free) ≡ 126 → From xs 6 (zoneBytes z ++ r) → zonesFrom xs ≡ z
+zones-read : {xs : List ℕ} (z : Zones) (r : List ℕ) → length (z .available) ≡ 3 → length (z .unavailable) ≡ 126 → length (z .free) ≡ 126 → From xs 8 (zoneBytes z ++ r) → zonesFrom xs ≡ z
 unfolding zoneBytes zonesFrom
 zones-read {xs} z r ha hu hf f =
     let f4 = z .nf ∷ z .pointer ∷ r in
@@ -130,17 +143,17 @@ zones-read {xs} z r ha hu hf f =
     let nf = past (z .free) f4 126 g hf in
     rw (part-read (z .available) (z .na ∷ f2) 3 a ha, byte-read na, part-read (z .unavailable) (z .nu ∷ f3) 126 u hu, byte-read nu, part-read (z .free) f4 126 g hf, byte-read nf, byte-read (behind nf))
 
-place-read : {xs : List ℕ} (i : ℕ) (p : Place) (r : List ℕ) → PlaceShaped p → From xs (278 + 325 * i) (placeBytes p ++ r)
-    → (placeFrom xs i ≡ p) × (dropsCoded (part (278 + 325 * i + 261) 64 xs) ≡ true)
+place-read : {xs : List ℕ} (i : ℕ) (p : Place) (r : List ℕ) → PlaceShaped p → From xs (281 + 325 * i) (placeBytes p ++ r)
+    → (placeFrom xs i ≡ p) × (dropsCoded (part (281 + 325 * i + 261) 64 xs) ≡ true)
 unfolding placeBytes placeFrom
 place-read {xs} i p r h f =
     let s = dropBytes (p .drops) ++ r in
     let q = each bytes16 (p .ppns) ++ s in
     let a = regroup (bytes32 (p .id) ++ (p .count ∷ (each bytes16 (p .lpns) ++ q))) f (simp append-assoc) in
     let c = past (bytes32 (p .id)) (p .count ∷ (each bytes16 (p .lpns) ++ q)) 4 a refl in
-    let l = moved (278 + 325 * i + 5) (behind c) (omega arith) in
-    let m = moved (278 + 325 * i + 133) (past (each bytes16 (p .lpns)) q 128 l (length-halves (p .lpns) ∙ (let k = h .lpns in omega arith))) (omega arith) in
-    let n = moved (278 + 325 * i + 261) (past (each bytes16 (p .ppns)) s 128 m (length-halves (p .ppns) ∙ (let k = h .ppns in omega arith))) (omega arith) in
+    let l = moved (281 + 325 * i + 5) (behind c) (omega arith) in
+    let m = moved (281 + 325 * i + 133) (past (each bytes16 (p .lpns)) q 128 l (length-halves (p .lpns) ∙ (let k = h .lpns in omega arith))) (omega arith) in
+    let n = moved (281 + 325 * i + 261) (past (each bytes16 (p .ppns)) s 128 m (length-halves (p .ppns) ∙ (let k = h .ppns in omega arith))) (omega arith) in
     let d = part-read (dropBytes (p .drops)) r 64 n (length-drops (p .drops) ∙ h .drops) in
     let e : placeFrom xs i ≡ p =
     rw (word-read (p .id) (p .count ∷ (each bytes16 (p .lpns) ++ q)) a, byte-read c, halves-read (p .lpns) q l (h .lpns), halves-read (p .ppns) s m (h .ppns), d, drops-said (p .drops)) in
@@ -155,11 +168,11 @@ length-place p h =
     simp (length-append, length-halves, length-drops) (omega arith)
 
 -- where the next place stands
-next : {xs : List ℕ} (p : Place) (ps : List Place) (i : ℕ) → PlaceShaped p → From xs (278 + 325 * i) (each placeBytes (p ∷ ps)) → From xs (278 + 325 * suc i) (each placeBytes ps)
+next : {xs : List ℕ} (p : Place) (ps : List Place) (i : ℕ) → PlaceShaped p → From xs (281 + 325 * i) (each placeBytes (p ∷ ps)) → From xs (281 + 325 * suc i) (each placeBytes ps)
 unfolding each
-next p ps i h f = moved (278 + 325 * suc i) (past (placeBytes p) (each placeBytes ps) 325 f (length-place p h)) (omega arith)
+next p ps i h f = moved (281 + 325 * suc i) (past (placeBytes p) (each placeBytes ps) 325 f (length-place p h)) (omega arith)
 
-places-read : {xs : List ℕ} (ps : List Place) (i : ℕ) → PlacesShaped ps → From xs (278 + 325 * i) (each placeBytes ps) → placesIn xs (length ps + i) ≡ placesIn xs i ++ ps
+places-read : {xs : List ℕ} (ps : List Place) (i : ℕ) → PlacesShaped ps → From xs (281 + 325 * i) (each placeBytes ps) → placesIn xs (length ps + i) ≡ placesIn xs i ++ ps
 unfolding placesIn each
 places-read {xs} [] i h f = let z : 0 + i ≡ i = omega arith in ap (placesIn xs) z ∙ sym (append-nil (placesIn xs i))
 places-read {xs} (p ∷ ps) i h f =
@@ -167,7 +180,7 @@ places-read {xs} (p ∷ ps) i h f =
     ap (placesIn xs) n ∙ places-read ps (suc i) (h .1) (next p ps i (h .0) f)
     ∙ ap (λ (q : Place). (placesIn xs i ++ (q ∷ [])) ++ ps) (place-read i p (each placeBytes ps) (h .0) f .0) ∙ append-assoc (placesIn xs i) (p ∷ []) ps
 
-places-coded : {xs : List ℕ} (ps : List Place) (i : ℕ) → PlacesShaped ps → From xs (278 + 325 * i) (each placeBytes ps) → placesCoded xs i ≡ true → placesCoded xs (length ps + i) ≡ true
+places-coded : {xs : List ℕ} (ps : List Place) (i : ℕ) → PlacesShaped ps → From xs (281 + 325 * i) (each placeBytes ps) → placesCoded xs i ≡ true → placesCoded xs (length ps + i) ≡ true
 unfolding placesCoded each
 places-coded {xs} [] i h f e = let z : 0 + i ≡ i = omega arith in rw z e
 places-coded {xs} (p ∷ ps) i h f e =
@@ -185,18 +198,28 @@ length-places (p ∷ ps) h =
 -- ---- the laws
 module _ (s : State) (h : Shaped s) where
   -- what stands behind the geometry, the zones, the numbers, the front place and the work
+  fromLast : List ℕ
+  fromLast = planeByte (s .last) ∷ each placeBytes (s .places)
+
   fromWork : List ℕ
-  fromWork = kindOf (s .work) ∷ (bytes16 (strideOf (s .work)) ++ each placeBytes (s .places))
+  fromWork = kindOf (s .work) ∷ (bytes16 (strideOf (s .work)) ++ fromLast)
 
   fromNumbers : List ℕ
   fromNumbers = bytes32 (s .version) ++ (bytes32 (s .checkpoint) ++ (s .front ∷ s .first ∷ fromWork))
 
-  whole : From (bytesOf s) 0 (bytes16 (s .geometry .blocks) ++ (bytes16 (s .geometry .pages) ++ (bytes16 (s .geometry .logical) ++ (zoneBytes (s .zones) ++ fromNumbers))))
-  unfolding bytesOf fromNumbers fromWork
+  fromZones : List ℕ
+  fromZones = zoneBytes (s .zones) ++ fromNumbers
+
+  whole : From (bytesOf s) 0 (bytes16 (s .geometry .blocks) ++ (bytes16 (s .geometry .pages) ++ (bytes16 (s .geometry .logical) ++ (bytes16 (s .geometry .planes) ++ fromZones))))
+  unfolding bytesOf geometryBytes fromZones fromNumbers fromWork fromLast
   whole = record { is = simp append-assoc }
 
-  zones : From (bytesOf s) 6 (zoneBytes (s .zones) ++ fromNumbers)
-  zones = behind (behind (behind (behind (behind (behind whole)))))
+  planes : From (bytesOf s) 6 (bytes16 (s .geometry .planes) ++ fromZones)
+  planes = behind (behind (behind (behind (behind (behind whole)))))
+
+  zones : From (bytesOf s) 8 (zoneBytes (s .zones) ++ fromNumbers)
+  unfolding fromZones
+  zones = behind (behind planes)
 
   length-zones : length (zoneBytes (s .zones)) ≡ 259
   unfolding zoneBytes
@@ -206,19 +229,23 @@ module _ (s : State) (h : Shaped s) where
       let f = h .free in
       simp length-append (omega arith)
 
-  numbers : From (bytesOf s) 265 fromNumbers
+  numbers : From (bytesOf s) 267 fromNumbers
   numbers = past (zoneBytes (s .zones)) fromNumbers 259 zones length-zones
 
-  front : From (bytesOf s) 273 (s .front ∷ s .first ∷ fromWork)
+  front : From (bytesOf s) 275 (s .front ∷ s .first ∷ fromWork)
   unfolding fromNumbers
   front = behind (behind (behind (behind (behind (behind (behind (behind numbers)))))))
 
-  work : From (bytesOf s) 275 (kindOf (s .work) ∷ (bytes16 (strideOf (s .work)) ++ each placeBytes (s .places)))
+  work : From (bytesOf s) 277 (kindOf (s .work) ∷ (bytes16 (strideOf (s .work)) ++ fromLast))
   unfolding fromWork
   work = behind (behind front)
 
-  places : From (bytesOf s) 278 (each placeBytes (s .places))
-  places = behind (behind (behind work))
+  last : From (bytesOf s) 280 (planeByte (s .last) ∷ each placeBytes (s .places))
+  unfolding fromLast
+  last = behind (behind (behind work))
+
+  places : From (bytesOf s) 281 (each placeBytes (s .places))
+  places = behind last
 
   all-places : placesIn (bytesOf s) 8 ≡ s .places
   unfolding placesIn
@@ -233,8 +260,11 @@ module _ (s : State) (h : Shaped s) where
       let n : 8 ≡ length (s .places) + 0 = omega arith in
       rw n (places-coded (s .places) 0 (h .each) places (unfold placesCoded in refl))
 
-  the-work : workFrom (getD (bytesOf s) 275 0) (le16 (bytesOf s) 276) ≡ s .work
-  the-work = rw (byte-read work, half-read (strideOf (s .work)) (each placeBytes (s .places)) (behind work)) (work-read (s .work))
+  the-work : workFrom (getD (bytesOf s) 277 0) (le16 (bytesOf s) 278) ≡ s .work
+  the-work = rw (byte-read work, half-read (strideOf (s .work)) fromLast (behind work)) (work-read (s .work))
+
+  the-last : planeFrom (getD (bytesOf s) 280 0) ≡ s .last
+  the-last = rw (byte-read last) (plane-read (s .last))
 
   -- the state is the one that was encoded
   pub state-back : stateFrom (bytesOf s) ≡ s
@@ -244,17 +274,19 @@ module _ (s : State) (h : Shaped s) where
         half-read _ _ whole,
         half-read _ _ (behind (behind whole)),
         half-read _ _ (behind (behind (behind (behind whole)))),
+        half-read _ _ planes,
         zones-read (s .zones) fromNumbers (h .available) (h .unavailable) (h .free) zones,
         word-read (s .version) _ numbers,
         word-read (s .checkpoint) _ (behind (behind (behind (behind numbers)))),
         byte-read front,
         byte-read (behind front),
         the-work,
+        the-last,
         all-places,
       )
 
-  length-bytes : length (bytesOf s) ≡ 2878
-  unfolding bytesOf
+  length-bytes : length (bytesOf s) ≡ 2881
+  unfolding bytesOf geometryBytes
   length-bytes =
       let z = length-zones in
       let p = length-places (s .places) (h .each) in
@@ -264,7 +296,7 @@ module _ (s : State) (h : Shaped s) where
   -- and its bytes encode one
   pub coded-back : encodes (bytesOf s) ≡ true
   unfolding encodes
-  coded-back = rw (eq-eqb _ _ length-bytes, byte-read work, half-read (strideOf (s .work)) (each placeBytes (s .places)) (behind work), work-coded (s .work)) all-coded
+  coded-back = rw (eq-eqb _ _ length-bytes, byte-read work, half-read (strideOf (s .work)) fromLast (behind work), work-coded (s .work), byte-read last, plane-coded (s .last)) all-coded
 
 -- the state that format and recover start from is one of them
 pub fresh-shaped : (g : Geometry) → Shaped (freshState g)

@@ -1,18 +1,20 @@
-// A state as 2,878 bytes, for callers in C or Rust, and back. Numbers are little-endian, and nothing is left between them.
-// 0 blocks (2 bytes), 2 pages (2), 4 logical pages (2); 6 the 3 available blocks, 9 their count, 10 the 126 unavailable ones, 136 their
-// count, 137 the 126 free ones, 263 their count, 264 the pointer; 265 last version (4), 269 checkpoint number (4), 273 front block,
-// 274 first page, 275 the kind of the work under way (0 none, 1 format, 2 checkpoint, 3 reclaim), 276 its stride number (2); from 278 on
-// 8 places of 325 bytes, each its identifier (4), its count, 64 logical pages (2 each), 64 pages (2 each) and 64 drops (1 each): whether the
-// page drops its logical page, 0 or 1.
-// Bytes encode a state if they are so many, the kind is one of these, the stride number of a kind that has none is 0, and every drop is 0 or 1.
+// A state as 2,881 bytes, for callers in C or Rust, and back. Numbers are little-endian, and nothing is left between them.
+// 0 blocks (2 bytes), 2 pages (2), 4 logical pages (2), 6 planes (2); 8 the 3 available blocks, 11 their count, 12 the 126 unavailable ones,
+// 138 their count, 139 the 126 free ones, 265 their count, 266 the pointer; 267 last version (4), 271 checkpoint number (4), 275 front block,
+// 276 first page, 277 the kind of the work under way (0 none, 1 format, 2 checkpoint, 3 reclaim), 278 its stride number (2), 280 the plane of
+// the last data block page (0 neither, 1 even, 2 odd); from 281 on 8 places of 325 bytes, each its identifier (4), its count, 64 logical pages
+// (2 each), 64 pages (2 each) and 64 drops (1 each): whether the page drops its logical page, 0 or 1.
+// Bytes encode a state if they are so many, kind and last plane are of these, the stride number of a kind that has none is 0, and every drop
+// is 0 or 1.
 ghost use mathlib.Core.Path.{_≡_};
 ghost use Prim.Native.Nat.{_+_, _*_, _≤_, _<_};
 ghost use lib.ListN.{length};
 ghost use Rattle.model.specs.Lists.{part};
 ghost use Rattle.model.specs.Bytes.{bytes16, bytes32, words};
-ghost use Rattle.encoding.specs.Encoding.{zonesFrom, workFrom, dropsFrom, placeFrom, placesIn, stateFrom, workCoded, dropsCoded, placesCoded, encodes, each, zoneBytes, kindOf, strideOf, dropBytes, placeBytes, bytesOf, Laid};
+ghost use Rattle.encoding.specs.Encoding.{zonesFrom, workFrom, planeFrom, dropsFrom, placeFrom, placesIn, stateFrom, workCoded, dropsCoded, placesCoded, encodes, each, geometryBytes, zoneBytes, kindOf, strideOf, planeByte, dropBytes, placeBytes, bytesOf, Laid};
 use model::Geometry;
 use model::Place;
+use model::Plane;
 use model::State;
 use model::Work;
 use model::Zones;
@@ -52,13 +54,13 @@ fn drops_coded(from: &[u8], at: usize) -> bool
 
 /// Whether every drop is 0 or 1, of all places.
 fn places_coded(from: &[u8]) -> bool
-    requires { ⌜ length (now from) ≡ 2878 ⌝ }
+    requires { ⌜ length (now from) ≡ 2881 ⌝ }
     ensures { λ r. ⌜ r ≡ placesCoded (now (from .entry)) 8 ⌝ }
 {
     let mut coded = true;
     let mut place: usize = 0;
     while place < State::PLACES {
-        coded = coded & drops_coded(from, 278 + 325 * place + 261);
+        coded = coded & drops_coded(from, 281 + 325 * place + 261);
         place += 1;
     }
     coded
@@ -68,10 +70,13 @@ fn places_coded(from: &[u8]) -> bool
 pub fn encodes(from: &[u8]) -> bool
     ensures { λ r. ⌜ r ≡ encodes (now (from .entry)) ⌝ }
 {
-    if from.len() != 2878 {
+    if from.len() != 2881 {
         return false;
     }
-    if !work_coded(from[275], page::word16(from, 276)) {
+    if !work_coded(from[277], page::word16(from, 278)) {
+        return false;
+    }
+    if from[280] > 2 {
         return false;
     }
     places_coded(from)
@@ -115,23 +120,23 @@ fn load_drops(from: &[u8], at: usize, list: &mut [bool])
 
 /// The zones among the bytes.
 fn load_zones(from: &[u8]) -> Zones
-    requires { ⌜ length (now from) ≡ 2878 ⌝ }
+    requires { ⌜ length (now from) ≡ 2881 ⌝ }
     ensures { λ r. ⌜ r ≡ zonesFrom (now (from .entry)) ⌝ }
 {
     let mut available = [0u8; 3];
-    load_bytes(from, 6, &mut available);
+    load_bytes(from, 8, &mut available);
     let mut unavailable = [0u8; 126];
-    load_bytes(from, 10, &mut unavailable);
+    load_bytes(from, 12, &mut unavailable);
     let mut free = [0u8; 126];
-    load_bytes(from, 137, &mut free);
+    load_bytes(from, 139, &mut free);
     Zones {
         available,
-        na: from[9],
+        na: from[11],
         unavailable,
-        nu: from[136],
+        nu: from[138],
         free,
-        nf: from[263],
-        pointer: from[264],
+        nf: from[265],
+        pointer: from[266],
     }
 }
 
@@ -151,12 +156,25 @@ fn load_work(kind: u8, stride: u16) -> Work
     Work::Idle
 }
 
+/// The plane that a byte says.
+fn load_plane(byte: u8) -> Plane
+    ensures { λ r. ⌜ r ≡ planeFrom byte ⌝ }
+{
+    if byte == 1 {
+        return Plane::Even;
+    }
+    if byte == 2 {
+        return Plane::Odd;
+    }
+    Plane::Neither
+}
+
 /// Place i among the bytes.
 fn load_place(from: &[u8], i: usize) -> Place
-    requires { ⌜ (length (now from) ≡ 2878) × (i < 8) ⌝ }
+    requires { ⌜ (length (now from) ≡ 2881) × (i < 8) ⌝ }
     ensures { λ r. ⌜ r ≡ placeFrom (now (from .entry)) i ⌝ }
 {
-    let at = 278 + 325 * i;
+    let at = 281 + 325 * i;
     let mut lpns = [0u16; Place::PAGES];
     load_halves(from, at + 5, &mut lpns);
     let mut ppns = [0u16; Place::PAGES];
@@ -174,7 +192,7 @@ fn load_place(from: &[u8], i: usize) -> Place
 
 /// The places among the bytes.
 fn load_places(from: &[u8]) -> [Place; State::PLACES]
-    requires { ⌜ length (now from) ≡ 2878 ⌝ }
+    requires { ⌜ length (now from) ≡ 2881 ⌝ }
     ensures { λ r. ⌜ r ≡ placesIn (now (from .entry)) 8 ⌝ }
 {
     [
@@ -191,25 +209,28 @@ fn load_places(from: &[u8]) -> [Place; State::PLACES]
 
 /// The state that the bytes say.
 pub fn load(from: &[u8]) -> State
-    requires { ⌜ length (now from) ≡ 2878 ⌝ }
+    requires { ⌜ length (now from) ≡ 2881 ⌝ }
     ensures { λ r. ⌜ r ≡ stateFrom (now (from .entry)) ⌝ }
 {
     let geometry = Geometry {
         blocks: page::word16(from, 0),
         pages: page::word16(from, 2),
         logical: page::word16(from, 4),
+        planes: page::word16(from, 6),
     };
     let zones = load_zones(from);
-    let work = load_work(from[275], page::word16(from, 276));
+    let work = load_work(from[277], page::word16(from, 278));
+    let last = load_plane(from[280]);
     let places = load_places(from);
     State {
         geometry,
         zones,
-        version: page::word32(from, 265),
-        checkpoint: page::word32(from, 269),
-        front: from[273],
-        first: from[274],
+        version: page::word32(from, 267),
+        checkpoint: page::word32(from, 271),
+        front: from[275],
+        first: from[276],
         work,
+        last,
         places,
     }
 }
@@ -270,18 +291,29 @@ fn put_drops(to: &mut [u8], at: usize, list: &[bool])
     }
 }
 
+/// Puts the geometry among the bytes.
+fn put_geometry(to: &mut [u8], g: Geometry)
+    requires { ⌜ length (now to) ≡ 2881 ⌝ }
+    ensures { λ _. ⌜ Laid (now (to .entry)) 0 8 (geometryBytes g) (now (to .exit)) ⌝ }
+{
+    put_half(to, 0, g.blocks);
+    put_half(to, 2, g.pages);
+    put_half(to, 4, g.logical);
+    put_half(to, 6, g.planes);
+}
+
 /// Puts the zones among the bytes.
 fn put_zones(to: &mut [u8], z: Zones)
-    requires { ⌜ length (now to) ≡ 2878 ⌝ }
-    ensures { λ _. ⌜ Laid (now (to .entry)) 6 259 (zoneBytes z) (now (to .exit)) ⌝ }
+    requires { ⌜ length (now to) ≡ 2881 ⌝ }
+    ensures { λ _. ⌜ Laid (now (to .entry)) 8 259 (zoneBytes z) (now (to .exit)) ⌝ }
 {
-    put_bytes(to, 6, &z.available);
-    to[9] = z.na;
-    put_bytes(to, 10, &z.unavailable);
-    to[136] = z.nu;
-    put_bytes(to, 137, &z.free);
-    to[263] = z.nf;
-    to[264] = z.pointer;
+    put_bytes(to, 8, &z.available);
+    to[11] = z.na;
+    put_bytes(to, 12, &z.unavailable);
+    to[138] = z.nu;
+    put_bytes(to, 139, &z.free);
+    to[265] = z.nf;
+    to[266] = z.pointer;
 }
 
 /// The kind of a work.
@@ -308,12 +340,23 @@ fn stride_of(work: Work) -> u16
     }
 }
 
+/// The byte of a plane.
+fn plane_byte(plane: Plane) -> u8
+    ensures { λ r. ⌜ r ≡ planeByte plane ⌝ }
+{
+    match plane {
+        Plane::Neither => 0,
+        Plane::Even => 1,
+        Plane::Odd => 2,
+    }
+}
+
 /// Puts place i among the bytes.
 fn put_place(to: &mut [u8], i: usize, p: Place)
-    requires { ⌜ (length (now to) ≡ 2878) × (i < 8) ⌝ }
-    ensures { λ _. ⌜ Laid (now (to .entry)) (278 + 325 * i) 325 (placeBytes p) (now (to .exit)) ⌝ }
+    requires { ⌜ (length (now to) ≡ 2881) × (i < 8) ⌝ }
+    ensures { λ _. ⌜ Laid (now (to .entry)) (281 + 325 * i) 325 (placeBytes p) (now (to .exit)) ⌝ }
 {
-    let at = 278 + 325 * i;
+    let at = 281 + 325 * i;
     put_word(to, at, p.id);
     to[at + 4] = p.count;
     put_halves(to, at + 5, &p.lpns);
@@ -323,8 +366,8 @@ fn put_place(to: &mut [u8], i: usize, p: Place)
 
 /// Puts the places among the bytes.
 fn put_places(to: &mut [u8], places: [Place; State::PLACES])
-    requires { ⌜ length (now to) ≡ 2878 ⌝ }
-    ensures { λ _. ⌜ Laid (now (to .entry)) 278 2600 (each placeBytes places) (now (to .exit)) ⌝ }
+    requires { ⌜ length (now to) ≡ 2881 ⌝ }
+    ensures { λ _. ⌜ Laid (now (to .entry)) 281 2600 (each placeBytes places) (now (to .exit)) ⌝ }
 {
     let mut i: usize = 0;
     while i < State::PLACES {
@@ -336,21 +379,22 @@ fn put_places(to: &mut [u8], places: [Place; State::PLACES])
 
 /// Puts a state as bytes.
 pub fn store(to: &mut [u8], s: State)
-    requires { ⌜ length (now to) ≡ 2878 ⌝ }
+    requires { ⌜ length (now to) ≡ 2881 ⌝ }
     ensures { λ _. ⌜ now (to .exit) ≡ bytesOf s ⌝ }
 {
-    put_half(to, 0, s.geometry.blocks);
-    put_half(to, 2, s.geometry.pages);
-    put_half(to, 4, s.geometry.logical);
+    let g = s.geometry;
+    put_geometry(to, g);
     let z = s.zones;
     put_zones(to, z);
-    put_word(to, 265, s.version);
-    put_word(to, 269, s.checkpoint);
-    to[273] = s.front;
-    to[274] = s.first;
+    put_word(to, 267, s.version);
+    put_word(to, 271, s.checkpoint);
+    to[275] = s.front;
+    to[276] = s.first;
     let w = s.work;
-    to[275] = kind_of(w);
-    put_half(to, 276, stride_of(w));
+    to[277] = kind_of(w);
+    put_half(to, 278, stride_of(w));
+    let last = s.last;
+    to[280] = plane_byte(last);
     let ps = s.places;
     put_places(to, ps);
 }

@@ -16,6 +16,7 @@ use Rattle.model.specs.Frame.{freePlace}
 use Rattle.model.specs.Commands.{Call, format, write, plan}
 use Rattle.model.specs.declared.Geometry.{Geometry}
 use Rattle.model.specs.declared.Spare.{Spare}
+use Rattle.model.specs.declared.Plane.the-variants.{Neither}
 use Rattle.model.specs.declared.Work.the-variants.{Idle}
 use Rattle.examples.specs.Unfolded.{go}
 use Rattle.examples.specs.Orders.{lent, format-answers}
@@ -42,7 +43,7 @@ gives (spareBytesOf d s) = drop 512 (pageBytes d s)
 gives (zerosOf d s) = le16 (pageBytes d s) 526 ∷ []
 gives (classed p) = classNumber (classOf p) ∷ []
 gives (scanned es) = count (committed es) es ∷ []
-gives (redone floor es) = versions (applied floor es)
+gives (redone floor es) = versions (applied 1 floor es)
 gives (asked c w) = plan c w .answer ∷ []
 
 -- ---- the inputs of the table
@@ -61,7 +62,7 @@ of5 c v = record { ppn = 16; lpn = 0; cnt = c; id = 5; ver = v; kind = 0; reserv
 abbrev pub lone : ℕ → Entry
 lone v = record { ppn = 16; lpn = 0; cnt = 1; id = 0; ver = v; kind = 0; reserved = 0 }
 
--- 8 blocks of 8 pages, a held page in place 0, the first n of the 24 available pages written
+-- 8 blocks of 8 pages on one plane, a held page in place 0, the first n of the 24 available pages written
 unfoldable pub filled : ℕ → World
 unfolding go
 filled n =
@@ -70,20 +71,21 @@ filled n =
       map = replicate 16 0xFFFF;
       hold = replicate 4096 0;
       state = record {
-        geometry = record { blocks = 8; pages = 8; logical = 16 };
+        geometry = record { blocks = 8; pages = 8; logical = 16; planes = 1 };
         zones = zonesOf (2 ∷ 3 ∷ 4 ∷ []) [] (5 ∷ 6 ∷ 7 ∷ []) 5;
         version = 0;
         checkpoint = 1;
         front = 0;
         first = 0;
         work = Idle;
+        last = Neither;
         places = record { id = 5; count = 1; lpns = padTo 64 (3 ∷ []); ppns = replicate 64 0; drops = replicate 64 false } ∷ replicate 7 freePlace;
       };
     }
 
--- b blocks of 8 pages
+-- b blocks of 8 pages on one plane
 abbrev pub blocksOf : ℕ → Geometry
-blocksOf b = record { blocks = b; pages = 8; logical = 8 }
+blocksOf b = record { blocks = b; pages = 8; logical = 8; planes = 1 }
 
 -- ---- the table
 pub data Case : Type 0 where

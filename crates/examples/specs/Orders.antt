@@ -263,7 +263,7 @@ module _ (g : Geometry) (w : World) (k : ℕ) (len : lentOk g w ≡ true) (found
   unfolding plan planRecover recoverFrom
   recover-3 o = rw (len, found, o) refl
 
-  pub recover-4 : loadOk g (entriesAt g (w .array) k) (zonesAt g (w .array) k) ≡ true → pagesGood (g .logical) (scannedAt g (w .array) k) ≡ false → plan (recover g) w ≡ refuse w 4
+  pub recover-4 : loadOk g (entriesAt g (w .array) k) (zonesAt g (w .array) k) ≡ true → pagesGood (g .planes) (g .logical) (scannedAt g (w .array) k) ≡ false → plan (recover g) w ≡ refuse w 4
   unfolding plan planRecover recoverFrom
   recover-4 o p = rw (len, found, o, p) refl
 
@@ -324,7 +324,7 @@ erase-switches-front w = refl
 -- ---- format with buffers that fit
 -- array, map and hold of the lengths that geometry g wants
 unfoldable pub lent : Geometry → World
-lent g = record { array = replicate (g .blocks * g .pages * 528) 7; map = replicate (g .logical) 0; hold = replicate 4096 0; state = freshState (record { blocks = 0; pages = 0; logical = 0 }) }
+lent g = record { array = replicate (g .blocks * g .pages * 528) 7; map = replicate (g .logical) 0; hold = replicate 4096 0; state = freshState (record { blocks = 0; pages = 0; logical = 0; planes = 1 }) }
 
 fits-lent : (g : Geometry) → lengthsOk g (lent g .array) (lent g .map) (lent g .hold) ≡ true
 unfolding lent lengthsOk

@@ -12,18 +12,20 @@ use Rattle.model.specs.Lists.{all, upFrom, padTo}
 use Rattle.model.specs.Bytes.{allFF}
 use Rattle.model.specs.Page.{tornBy, spareOf, pageBytes, spareBytes}
 use Rattle.model.specs.Geometry.{geometryOk}
-use Rattle.model.specs.Zones.{Entry, Taken, zonesOf, listedIn, zoneListsOk, freeIndex, pastBlock, refill, slide, tornOf}
+use Rattle.model.specs.Zones.{Entry, Taken, zonesOf, listedIn, zoneListsOk, freeIndex, pastBlock, refill, slide, tornOf, nextIn, takenFrom}
 use Rattle.model.specs.Checkpoint.{Found, nothing, at, mapSpare, zoneSpare, mapBytes, zoneData, completeAt, newest, zonesIn, loadOk}
 use Rattle.model.specs.Recovery.{entryGood, pagesGood, applied, redone}
 use Rattle.model.specs.World.{World}
 use Rattle.model.specs.Frame.{freePlace, placeOk, placesOk, formatStrideOk, checkpointStrideOk, workOk, freshState}
-use Rattle.model.specs.Transactions.{dataBytes, changeBytes, heldAt, holdWith, gone, entered}
+use Rattle.model.specs.Transactions.{withLast, numberOf, dataBytes, changeBytes, heldAt, holdWith, gone, entered}
 use Rattle.model.specs.Strides.{withWork, mappedIn, pickFrom, lowestFrom, stridesDone, formatWorkOk}
 use Rattle.model.specs.Commands.{format, plan}
 use Rattle.model.specs.declared.Geometry.{Geometry}
 use Rattle.model.specs.declared.Spare.{Spare}
 use Rattle.model.specs.declared.Zones.{Zones}
 use Rattle.model.specs.declared.Place.{Place}
+use Rattle.model.specs.declared.Plane.{Plane}
+use Rattle.model.specs.declared.Plane.the-variants.{Neither, Even, Odd}
 use Rattle.model.specs.declared.Work.the-variants.{Idle, Format, Reclaim}
 use Rattle.examples.specs.Unfolded.{go}
 use Rattle.examples.specs.Orders.{lent, format-answers}
@@ -101,6 +103,18 @@ pub data Rule : Type 0 where
   torn-difference : Rule
   torn-below-zero : Rule
   torn-in-scan-order : Rule
+  other-plane : Rule
+  other-plane-full : Rule
+  one-plane-order : Rule
+  last-plane : Rule
+  number-written : Rule
+  number-passes : Rule
+  number-range : Rule
+  number-twice : Rule
+  number-lone : Rule
+  higher-holds : Rule
+  place-two-planes : Rule
+  planes-range : Rule
   blocks-range : Rule
   pages-range : Rule
   logical-range : Rule
@@ -109,6 +123,7 @@ pub data Rule : Type 0 where
   format-pages : Rule
   format-logical : Rule
   format-spared : Rule
+  format-planes : Rule
 
 pub record Row : Type 0 where
   pub rule : Rule
@@ -146,8 +161,12 @@ abbrev pub takenGiven : Taken → List ℕ
 takenGiven t = length (t .available) ∷ length (t .free) ∷ t .pointer ∷ (t .available ++ t .free)
 
 -- ---- small inputs
+-- geometries of one plane, and of n
 abbrev pub shape : ℕ → ℕ → ℕ → Geometry
-shape b p l = record { blocks = b; pages = p; logical = l }
+shape b p l = record { blocks = b; pages = p; logical = l; planes = 1 }
+
+abbrev pub planed : ℕ → Geometry
+planed n = record { blocks = 8; pages = 8; logical = 16; planes = n }
 
 abbrev pub small : Geometry
 small = shape 8 8 16
@@ -208,7 +227,7 @@ ofKind kind cnt id ver = record { ppn = 17; lpn = 3; cnt = cnt; id = id; ver = v
 
 -- whether refusal 4 passes it, L being 16, after those seen
 abbrev pub good : List Entry → Entry → ℕ
-good seen e = flag (entryGood 16 seen e)
+good seen e = flag (entryGood 1 16 seen e)
 
 -- the scan of a change of n pages, k of them from logical page i on: logical page i on page 16 + i, the last being the mark
 abbrev pub changeFrom : ℕ → ℕ → ℕ → List Entry
@@ -373,7 +392,7 @@ pageRows =
     }
     ∷ record { rule = page-kind; gives = good [] (ofKind 1 1 0 7) ∷ good [] (ofKind 2 1 0 7) ∷ good [] (ofKind 4 1 0 7) ∷ good [] (ofKind 255 1 0 7) ∷ []; says = 0 ∷ 0 ∷ 0 ∷ 0 ∷ [] }
     ∷ record { rule = drop-passes; gives = good [] (ofKind 3 0 5 0) ∷ good [] (ofKind 3 2 5 7) ∷ good [] (ofKind 3 1 0 7) ∷ good [] (ofKind 3 2 0 7) ∷ []; says = 1 ∷ 1 ∷ 1 ∷ 0 ∷ [] }
-    ∷ record { rule = page-reserved; gives = flag (entryGood 16 [] (record { ppn = 16; lpn = 3; cnt = 1; id = 0; ver = 7; kind = 0; reserved = 1 })) ∷ []; says = 0 ∷ [] }
+    ∷ record { rule = page-reserved; gives = flag (entryGood 1 16 [] (record { ppn = 16; lpn = 3; cnt = 1; id = 0; ver = 7; kind = 0; reserved = 1 })) ∷ []; says = 0 ∷ [] }
     ∷ record { rule = page-logical; gives = good [] (entry 16 1 0 7) ∷ []; says = 0 ∷ [] }
     ∷ record { rule = page-one-zero; gives = good [] (entry 3 0 5 7) ∷ good [] (entry 3 1 5 0) ∷ []; says = 0 ∷ 0 ∷ [] }
     ∷ record { rule = page-highest; gives = good [] (entry 3 1 0xFFFFFFFF 7) ∷ good [] (entry 3 1 5 0xFFFFFFFF) ∷ []; says = 0 ∷ 0 ∷ [] }
@@ -421,8 +440,9 @@ strideRows =
     ∷ record {
       rule = format-anew;
       gives = flag (formatWorkOk small (striding (shape 9 8 8) 99) (Format 99)) ∷ flag (formatWorkOk small (striding small 99) (Format 99))
-          ∷ stridesDone small (striding (shape 9 8 8) 3 .state) (Format 3) ∷ stridesDone small (striding small 3 .state) (Format 3) ∷ [];
-      says = 1 ∷ 0 ∷ 0 ∷ 3 ∷ [];
+          ∷ stridesDone small (striding (shape 9 8 8) 3 .state) (Format 3) ∷ stridesDone small (striding small 3 .state) (Format 3)
+          ∷ stridesDone (planed 2) (striding small 3 .state) (Format 3) ∷ [];
+      says = 1 ∷ 0 ∷ 0 ∷ 3 ∷ 0 ∷ [];
     }
     ∷ record {
       rule = no-first-page;
@@ -437,7 +457,7 @@ abbrev pub changeRows : List Row
 changeRows =
     record { rule = hold-by-place; gives = take 2 (heldAt 1 twoHeld) ++ (take 2 (drop 511 (holdWith twoHeld 1 (replicate 512 9))) ++ (length (holdWith twoHeld 1 (replicate 512 9)) ∷ [])); says = 1 ∷ 1 ∷ 0 ∷ 9 ∷ 1024 ∷ [] }
     ∷ record { rule = later-holds; gives = entered (65535 ∷ 65535 ∷ []) (1 ∷ 1 ∷ []) (16 ∷ 17 ∷ []) (false ∷ false ∷ []) 2; says = 65535 ∷ 17 ∷ [] }
-    ∷ record { rule = rising-versions; gives = versionsOf (applied 0 (entry 3 1 0 2 ∷ entry 3 1 0 1 ∷ [])); says = 1 ∷ 2 ∷ [] }
+    ∷ record { rule = rising-versions; gives = versionsOf (applied 1 0 (entry 3 1 0 2 ∷ entry 3 1 0 1 ∷ [])); says = 1 ∷ 2 ∷ [] }
     ∷ []
 
 -- ---- drops: document 02, "Applied at commit or recovery, it unmaps"; logical pages 0 and 1 are mapped, and the change has page 20 and 21
@@ -448,12 +468,12 @@ dropRows =
     ∷ record { rule = drop-unmaps; gives = entered (16 ∷ 17 ∷ []) (1 ∷ 1 ∷ []) (20 ∷ 21 ∷ []) (true ∷ false ∷ []) 2; says = 16 ∷ 21 ∷ [] }
     ∷ record { rule = drop-unmaps; gives = entered (16 ∷ 17 ∷ []) (1 ∷ 1 ∷ []) (20 ∷ 21 ∷ []) (false ∷ true ∷ []) 2; says = 16 ∷ 65535 ∷ [] }
     -- at recovery: a change whose mark is a drop, and one whose mark counts a page too many
-    ∷ record { rule = drop-unmaps; gives = redone 0 (entry 1 0 5 0 ∷ ofKind 3 2 5 7 ∷ []) (16 ∷ 17 ∷ 18 ∷ 19 ∷ []); says = 16 ∷ 16 ∷ 18 ∷ 65535 ∷ [] }
-    ∷ record { rule = drop-unmaps; gives = redone 0 (entry 1 0 5 0 ∷ ofKind 3 3 5 7 ∷ []) (16 ∷ 17 ∷ 18 ∷ 19 ∷ []); says = 16 ∷ 17 ∷ 18 ∷ 19 ∷ [] }
+    ∷ record { rule = drop-unmaps; gives = redone 1 0 (entry 1 0 5 0 ∷ ofKind 3 2 5 7 ∷ []) (16 ∷ 17 ∷ 18 ∷ 19 ∷ []); says = 16 ∷ 16 ∷ 18 ∷ 65535 ∷ [] }
+    ∷ record { rule = drop-unmaps; gives = redone 1 0 (entry 1 0 5 0 ∷ ofKind 3 3 5 7 ∷ []) (16 ∷ 17 ∷ 18 ∷ 19 ∷ []); says = 16 ∷ 17 ∷ 18 ∷ 19 ∷ [] }
     -- "a page of Kind 3, data all 0xFF": whether they are, and the spare area, with its 103 Zeros
     ∷ record {
       rule = drop-bytes;
-      gives = flag (allFF (take 512 (changeBytes gone true 3 1 7 1))) ∷ drop 512 (changeBytes gone true 3 1 7 1);
+      gives = flag (allFF (take 512 (changeBytes gone true 3 1 7 1 0))) ∷ drop 512 (changeBytes gone true 3 1 7 1 0);
       says = 1 ∷ 3 ∷ 0 ∷ 1 ∷ 0 ∷ 7 ∷ 0 ∷ 0 ∷ 0 ∷ 1 ∷ 0 ∷ 0 ∷ 0 ∷ 3 ∷ 0 ∷ 103 ∷ 0 ∷ [];
     }
     ∷ []
@@ -463,10 +483,10 @@ abbrev pub longRows : List Row
 longRows =
     record {
       rule = long-passes;
-      gives = flag (pagesGood 80 (changeOf 41)) ∷ flag (pagesGood 80 (changeOf 42)) ∷ flag (pagesGood 80 (changeOf 64)) ∷ flag (pagesGood 80 (changeOf 65)) ∷ [];
+      gives = flag (pagesGood 1 80 (changeOf 41)) ∷ flag (pagesGood 1 80 (changeOf 42)) ∷ flag (pagesGood 1 80 (changeOf 64)) ∷ flag (pagesGood 1 80 (changeOf 65)) ∷ [];
       says = 1 ∷ 1 ∷ 1 ∷ 1 ∷ [];
     }
-    ∷ record { rule = long-entered; gives = redone 0 (changeOf 64) (replicate 64 65535); says = upFrom 16 64 }
+    ∷ record { rule = long-entered; gives = redone 1 0 (changeOf 64) (replicate 64 65535); says = upFrom 16 64 }
     ∷ []
 
 -- ---- how torn a page is: document 02, "the difference Zeros minus counted zero bits"
@@ -500,12 +520,80 @@ tornScanRows =
     someTorn : List ℕ
     someTorn = left 0 128 ++ (replicate (3 * 528) 255 ++ (half 5 ++ ((left 0 128 ++ replicate 528 0) ++ (erasedPage ++ left 527 1))))
 
+-- ---- two planes: document 02, "the next data block page comes from the other plane than the last, if it has clean pages"
+-- blocks of two pages on two planes
+abbrev pub twin : Geometry
+twin = record { blocks = 8; pages = 2; logical = 1; planes = 2 }
+
+-- the blocks 2, 3, 4 from which the next page is taken
+abbrev pub taken : Geometry → Plane → List ℕ → List ℕ → List ℕ → List ℕ
+taken g last x y z = takenFrom g last (array3 x y z) (2 ∷ 3 ∷ 4 ∷ [])
+
+-- 0 neither, 1 even, 2 odd
+abbrev pub planeNumber : Plane → ℕ
+planeNumber Neither = 0
+planeNumber Even = 1
+planeNumber Odd = 2
+
+abbrev pub lastAfter : Geometry → ℕ → ℕ
+lastAfter g b = planeNumber (withLast (freshState g) b .last)
+
+-- a scanned page with a write number, and whether refusal 4 passes it on two planes
+abbrev pub nth : ℕ → ℕ → ℕ → ℕ → Entry
+nth n cnt id ver = record { ppn = 16 + n; lpn = 1; cnt = cnt; id = id; ver = ver; kind = 0; reserved = n }
+
+abbrev pub goodTwo : List Entry → Entry → ℕ
+goodTwo seen e = flag (entryGood 2 16 seen e)
+
+abbrev pub planeRows : List Row
+planeRows =
+    record { rule = other-plane; gives = taken twin Even empty2 empty2 empty2 ++ taken twin Odd empty2 empty2 empty2; says = 3 ∷ 2 ∷ 4 ∷ [] }
+    ∷ record { rule = other-plane; gives = nextIn (array3 (both 5 5) empty2 (half 5)) 2 (taken twin Odd (both 5 5) empty2 (half 5)) ∷ []; says = 9 ∷ [] }
+    ∷ record { rule = other-plane-full; gives = taken twin Even empty2 (both 5 5) empty2; says = 2 ∷ 3 ∷ 4 ∷ [] }
+    ∷ record { rule = one-plane-order; gives = taken (shape 8 2 1) Even empty2 empty2 empty2 ++ taken twin Neither empty2 empty2 empty2; says = 2 ∷ 3 ∷ 4 ∷ 2 ∷ 3 ∷ 4 ∷ [] }
+    ∷ record { rule = place-two-planes; gives = flag (placeOk (planed 2) (placed 5 41 [] (replicate 40 63))) ∷ flag (placeOk (planed 2) (placed 5 42 [] (replicate 41 63))) ∷ []; says = 1 ∷ 0 ∷ [] }
+    ∷ []
+
+-- the plane of the last data block page
+abbrev pub lastRows : List Row
+lastRows = record { rule = last-plane; gives = lastAfter (planed 2) 4 ∷ lastAfter (planed 2) 5 ∷ lastAfter small 5 ∷ []; says = 1 ∷ 2 ∷ 0 ∷ [] } ∷ []
+
+-- "Reserved becomes the write number within the transaction, 1 to 41": of the fifth page of a change, and of a lone page
+abbrev pub numberRows : List Row
+numberRows =
+    record {
+      rule = number-written;
+      gives = getD (changeBytes gone true 3 1 7 1 (numberOf (planed 2) 5)) 525 0 ∷ getD (changeBytes gone true 3 1 7 1 (numberOf small 5)) 525 0 ∷ getD (dataBytes gone 3 1 0 1) 525 7 ∷ [];
+      says = 5 ∷ 0 ∷ 0 ∷ [];
+    }
+    ∷ []
+
+-- refusal 4 of write numbers
+abbrev pub numberedRows : List Row
+numberedRows =
+    record {
+      rule = number-passes;
+      gives = goodTwo [] (nth 1 0 5 0) ∷ goodTwo [] (nth 41 0 5 0) ∷ goodTwo (nth 2 2 5 7 ∷ []) (nth 1 0 5 0) ∷ goodTwo (nth 1 0 6 0 ∷ []) (nth 1 0 5 0) ∷ goodTwo [] (nth 0 1 0 7) ∷ [];
+      says = 1 ∷ 1 ∷ 1 ∷ 1 ∷ 1 ∷ [];
+    }
+    ∷ record { rule = number-range; gives = goodTwo [] (nth 0 0 5 0) ∷ goodTwo [] (nth 42 0 5 0) ∷ []; says = 0 ∷ 0 ∷ [] }
+    ∷ record { rule = number-twice; gives = goodTwo (nth 3 0 5 0 ∷ []) (nth 3 2 5 7) ∷ goodTwo (nth 3 0 5 0 ∷ nth 1 0 5 0 ∷ []) (nth 3 0 5 0) ∷ []; says = 0 ∷ 0 ∷ [] }
+    ∷ record { rule = number-lone; gives = goodTwo [] (nth 1 1 0 7) ∷ good [] (nth 1 0 5 0) ∷ []; says = 0 ∷ 0 ∷ [] }
+    ∷ []
+
+-- the page with number 1 is scanned behind the mark, which has number 2; on one plane the later would hold
+abbrev pub turnRows : List Row
+turnRows =
+    record { rule = higher-holds; gives = redone 2 0 (nth 2 2 5 7 ∷ nth 1 0 5 0 ∷ []) (65535 ∷ 65535 ∷ []); says = 65535 ∷ 18 ∷ [] }
+    ∷ []
+
 -- ---- geometry: the bounds, and a format of buffers that fit
 abbrev pub geometryRows : List Row
 geometryRows =
     record { rule = blocks-range; gives = inRange 7 8 8 ∷ inRange 8 8 8 ∷ inRange 128 8 8 ∷ inRange 129 8 8 ∷ []; says = 0 ∷ 1 ∷ 1 ∷ 0 ∷ [] }
     ∷ record { rule = pages-range; gives = inRange 8 7 8 ∷ inRange 8 8 8 ∷ inRange 8 64 8 ∷ inRange 8 65 8 ∷ []; says = 0 ∷ 1 ∷ 1 ∷ 0 ∷ [] }
     ∷ record { rule = logical-range; gives = inRange 128 64 0 ∷ inRange 128 64 1 ∷ inRange 128 64 1024 ∷ inRange 128 64 1025 ∷ []; says = 0 ∷ 1 ∷ 1 ∷ 0 ∷ [] }
+    ∷ record { rule = planes-range; gives = flag (geometryOk (planed 0)) ∷ flag (geometryOk (planed 1)) ∷ flag (geometryOk (planed 2)) ∷ flag (geometryOk (planed 3)) ∷ []; says = 0 ∷ 1 ∷ 1 ∷ 0 ∷ [] }
     ∷ record { rule = spared-blocks; gives = inRange 8 8 16 ∷ inRange 8 8 17 ∷ inRange 16 10 100 ∷ inRange 16 10 101 ∷ []; says = 1 ∷ 0 ∷ 1 ∷ 0 ∷ [] }
     ∷ []
 
@@ -524,6 +612,9 @@ formatRows =
     ∷ record { rule = format-logical; gives = formats (shape 128 64 1025); says = 1 ∷ [] }
     ∷ record { rule = format-spared; gives = formats (shape 8 8 16); says = 255 ∷ [] }
     ∷ record { rule = format-spared; gives = formats (shape 8 8 17); says = 1 ∷ [] }
+    ∷ record { rule = format-planes; gives = formats (planed 0); says = 1 ∷ [] }
+    ∷ record { rule = format-planes; gives = formats (planed 2); says = 255 ∷ [] }
+    ∷ record { rule = format-planes; gives = formats (planed 3); says = 1 ∷ [] }
     ∷ []
 
 -- ---- every row holds
@@ -583,20 +674,40 @@ torn-scan-rows : Every tornScanRows
 unfolding go
 torn-scan-rows = (refl, tt)
 
+plane-rows : Every planeRows
+unfolding go
+plane-rows = (refl, (refl, (refl, (refl, (refl, tt)))))
+
+last-rows : Every lastRows
+unfolding go
+last-rows = (refl, tt)
+
+number-rows : Every numberRows
+unfolding go
+number-rows = (refl, tt)
+
+numbered-rows : Every numberedRows
+unfolding go
+numbered-rows = (refl, (refl, (refl, (refl, tt))))
+
+turn-rows : Every turnRows
+unfolding go
+turn-rows = (refl, tt)
+
 geometry-rows : Every geometryRows
 unfolding go
-geometry-rows = (refl, (refl, (refl, (refl, tt))))
+geometry-rows = (refl, (refl, (refl, (refl, (refl, tt)))))
 
 abbrev only : ℕ → List ℕ
 only n = n ∷ []
 
 format-rows : Every formatRows
 unfolding geometryOk
-format-rows = (ap only (format-answers (shape 7 8 8)), (ap only (format-answers (shape 8 8 8)), (ap only (format-answers (shape 128 8 8)), (ap only (format-answers (shape 129 8 8)), (ap only (format-answers (shape 8 7 8)), (ap only (format-answers (shape 8 64 8)), (ap only (format-answers (shape 8 65 8)), (ap only (format-answers (shape 128 64 0)), (ap only (format-answers (shape 128 64 1)), (ap only (format-answers (shape 128 64 1024)), (ap only (format-answers (shape 128 64 1025)), (ap only (format-answers (shape 8 8 16)), (ap only (format-answers (shape 8 8 17)), tt)))))))))))))
+format-rows = (ap only (format-answers (shape 7 8 8)), (ap only (format-answers (shape 8 8 8)), (ap only (format-answers (shape 128 8 8)), (ap only (format-answers (shape 129 8 8)), (ap only (format-answers (shape 8 7 8)), (ap only (format-answers (shape 8 64 8)), (ap only (format-answers (shape 8 65 8)), (ap only (format-answers (shape 128 64 0)), (ap only (format-answers (shape 128 64 1)), (ap only (format-answers (shape 128 64 1024)), (ap only (format-answers (shape 128 64 1025)), (ap only (format-answers (shape 8 8 16)), (ap only (format-answers (shape 8 8 17)), (ap only (format-answers (planed 0)), (ap only (format-answers (planed 2)), (ap only (format-answers (planed 3)), tt))))))))))))))))
 
 abbrev pub table : List (List Row)
 table =
-    freeRows ∷ slideRows ∷ reclaimRows ∷ checkpointRows ∷ newestRows ∷ loadRows ∷ pageRows ∷ placeRows ∷ strideRows ∷ changeRows ∷ dropRows ∷ longRows ∷ tornRows ∷ tornScanRows ∷ geometryRows ∷ formatRows ∷ []
+    freeRows ∷ slideRows ∷ reclaimRows ∷ checkpointRows ∷ newestRows ∷ loadRows ∷ pageRows ∷ placeRows ∷ strideRows ∷ changeRows ∷ dropRows ∷ longRows ∷ tornRows ∷ tornScanRows ∷ planeRows ∷ lastRows ∷ numberRows ∷ numberedRows ∷ turnRows ∷ geometryRows ∷ formatRows ∷ []
 
 pub rules : EveryGroup table
-rules = (free-rows, (slide-rows, (reclaim-rows, (checkpoint-rows, (newest-rows, (load-rows, (page-rows, (place-rows, (stride-rows, (change-rows, (drop-rows, (long-rows, (torn-rows, (torn-scan-rows, (geometry-rows, (format-rows, tt))))))))))))))))
+rules = (free-rows, (slide-rows, (reclaim-rows, (checkpoint-rows, (newest-rows, (load-rows, (page-rows, (place-rows, (stride-rows, (change-rows, (drop-rows, (long-rows, (torn-rows, (torn-scan-rows, (plane-rows, (last-rows, (number-rows, (numbered-rows, (turn-rows, (geometry-rows, (format-rows, tt)))))))))))))))))))))

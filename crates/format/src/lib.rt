@@ -27,7 +27,10 @@ fn same_geometry(g: Geometry, h: Geometry) -> bool
     if g.pages != h.pages {
         return false;
     }
-    g.logical == h.logical
+    if g.logical != h.logical {
+        return false;
+    }
+    g.planes == h.planes
 }
 
 /// The strides that a format of geometry g has done.

@@ -10,7 +10,7 @@ use borrow.Author.Tests.{le-leb, lt-leb, eq-eqb, ne-eqb}
 use Rattle.model.specs.Lists.{all}
 use Rattle.model.specs.Geometry.{dataPage}
 use Rattle.model.specs.Zones.{hasId}
-use Rattle.model.specs.Frame.{noPlace, badId, placeOk, alone}
+use Rattle.model.specs.Frame.{noPlace, badId, mostPages, placeOk, alone}
 use Rattle.model.specs.declared.Geometry.{Geometry}
 use Rattle.model.specs.declared.Place.{Place}
 use Rattle.places.specs.Ids.{idsOf}
@@ -21,21 +21,21 @@ use Rattle.frame.specs.Ids.{idAlone}
 abbrev pub placeAmong : Geometry → Place → List Place → Bool
 placeAmong g p later = placeOk g p && alone p later
 
-module _ (g : Geometry) (p : Place) where
-  pub place-long : 64 < p .count → placeOk g p ≡ false
+module _ (g : Geometry) (p : Place) (most : ℕ) (is : most ≡ mostPages g) where
+  pub place-long : most < p .count → placeOk g p ≡ false
   unfolding placeOk
-  place-long h = rw (lt-leb (p .count) 64 h)
+  place-long h = rw (← is, lt-leb (p .count) most h)
 
-  module _ (few : p .count ≤ 64) where
+  module _ (few : p .count ≤ most) where
     pub place-unnamed : p .id ≡ 4294967295 → placeOk g p ≡ false
     unfolding placeOk badId
-    place-unnamed e = rw (le-leb (p .count) 64 few, ne-eqb (p .id) 0 (λ z. omega arith), eq-eqb (p .id) 4294967295 e)
+    place-unnamed e = rw (← is, le-leb (p .count) most few, ne-eqb (p .id) 0 (λ z. omega arith), eq-eqb (p .id) 4294967295 e)
 
     module _ (named : p .id ≡ 4294967295 → ⊥) where
       -- nothing written: free or not
       pub place-empty : p .count ≡ 0 → placeOk g p ≡ true
       unfolding placeOk badId all
-      place-empty e = rw (le-leb (p .count) 64 few, ne-eqb (p .id) 4294967295 named, e) (either (eqb (p .id) 0))
+      place-empty e = rw (← is, le-leb (p .count) most few, ne-eqb (p .id) 4294967295 named, e) (either (eqb (p .id) 0))
         where
           either : (t : Bool) → ((not (t || false) || (t && true)) && true) ≡ true
           either true = refl
@@ -44,12 +44,12 @@ module _ (g : Geometry) (p : Place) where
       module _ (some : p .count ≡ 0 → ⊥) where
         pub place-free : p .id ≡ 0 → placeOk g p ≡ false
         unfolding placeOk badId
-        place-free e = rw (le-leb (p .count) 64 few, eq-eqb (p .id) 0 e, ne-eqb (p .count) 0 some)
+        place-free e = rw (← is, le-leb (p .count) most few, eq-eqb (p .id) 0 e, ne-eqb (p .count) 0 some)
 
         pub place-written : (p .id ≡ 0 → ⊥)
             → placeOk g p ≡ (all (λ (l : ℕ). ltb l (g .logical)) (take (p .count) (p .lpns)) && all (dataPage g) (take (p .count - 1) (p .ppns)))
         unfolding placeOk badId
-        place-written h = rw (le-leb (p .count) 64 few, ne-eqb (p .id) 0 h, ne-eqb (p .id) 4294967295 named)
+        place-written h = rw (← is, le-leb (p .count) most few, ne-eqb (p .id) 0 h, ne-eqb (p .id) 4294967295 named)
 
 -- ---- the identifiers of the places
 drop-ids : (n : ℕ) (ps : List Place) → drop n (idsOf ps) ≡ idsOf (drop n ps)

@@ -1,13 +1,13 @@
 // Refusals 1 and 17: whether a state may be, with the buffers lent beside it, and whether another command's work is under way.
 ghost use mathlib.Core.Path.{_≡_};
-ghost use mathlib.Core.Bool.{true, cond, _&&_};
+ghost use mathlib.Core.Bool.{true, cond};
 ghost use Prim.Native.Nat.{ℕ, _+_, _-_, _*_, _≤_, _<_};
-ghost use lib.ListN.{length, take, drop, getD};
+ghost use lib.ListN.{take, drop, getD};
 ghost use lib.Dec.{eqb, ltb};
 ghost use Rattle.model.specs.Answers.{number};
 ghost use Rattle.model.specs.Lists.{all};
-ghost use Rattle.model.specs.Geometry.{geometryOk, lengthsOk, dataPage};
-ghost use Rattle.model.specs.Frame.{placeOk, placesOk, formatStrideOk, checkpointStrideOk, workOk, frameOk, isIdle, gate};
+ghost use Rattle.model.specs.Geometry.{geometryOk, dataPage};
+ghost use Rattle.model.specs.Frame.{mostPages, placeOk, placesOk, formatStrideOk, checkpointStrideOk, workOk, frameOk, isIdle, gate};
 ghost use Rattle.frame.specs.Lent.{Sized};
 ghost use Rattle.frame.specs.Ids.{idAlone};
 use model::Answer;
@@ -58,12 +58,22 @@ fn ppns_ok(g: Geometry, ppns: [u16; Place::PAGES], n: usize) -> bool
     true
 }
 
+/// The pages that a place may have: on two planes, those that a change may be written up to.
+fn most_pages(g: Geometry) -> u8
+    ensures { λ r. ⌜ (r ≡ mostPages g) × (r ≤ 64) ⌝ }
+{
+    if g.planes == 2 {
+        return State::LONGEST_CHANGE;
+    }
+    PAGES
+}
+
 /// Whether a place is in range.
 fn place_ok(g: Geometry, p: Place) -> bool
     requires { ⌜ geometryOk g ≡ true ⌝ }
     ensures { λ r. ⌜ r ≡ placeOk g p ⌝ }
 {
-    if p.count > PAGES {
+    if p.count > most_pages(g) {
         return false;
     }
     if p.id == State::NO_NUMBER {

@@ -3,7 +3,7 @@ use Prim.Native.Nat.{ℕ, zero, suc, _+_, _-_, max}
 use mathlib.Core.Bool.{Bool, true, false, not, cond, _&&_, _||_}
 use mathlib.Core.List.{List, [], _∷_, _++_}
 use lib.ListN.{length}
-use lib.Dec.{ltb, eqb}
+use lib.Dec.{ltb, leb, eqb}
 use Rattle.model.specs.Lists.{all, allHeads, keep, those}
 use Rattle.model.specs.Geometry.{enterPage, leads}
 use Rattle.model.specs.Zones.{Entry}
@@ -23,11 +23,17 @@ markNew seen e =
 abbrev pub kindGood : ℕ → Bool
 kindGood kind = eqb kind 0 || eqb kind 3
 
+-- Reserved: 0, but on two planes the write number of a page of a nonzero TxID, for which refusal 4 "covers a zero, a value above 41 or a repeat"
+unfoldable pub numberGood : ℕ → List Entry → Entry → Bool
+numberGood planes seen e =
+    let new = all (λ (x : Entry). not (eqb (x .id) (e .id) && eqb (x .reserved) (e .reserved))) seen in
+    cond (eqb planes 2 && not (eqb (e .id) 0)) (leb 1 (e .reserved) && (leb (e .reserved) 41 && new)) (eqb (e .reserved) 0)
+
 -- none of: "Kind or Reserved not 0; LPN ≥ L; only one of TxCnt, TxVer zero; TxID or TxVer 0xFFFFFFFF; TxID 0 with TxCnt not 1"
-unfoldable pub entryGood : ℕ → List Entry → Entry → Bool
-entryGood logical seen e =
+unfoldable pub entryGood : ℕ → ℕ → List Entry → Entry → Bool
+entryGood planes logical seen e =
     kindGood (e .kind)
-    && (eqb (e .reserved) 0
+    && (numberGood planes seen e
     && (ltb (e .lpn) logical
     && (not (eqb (e .id) 4294967295)
     && (not (eqb (e .ver) 4294967295)
@@ -35,8 +41,8 @@ entryGood logical seen e =
     && cond (isMark e) (not (eqb (e .ver) 0) && markNew seen e) (eqb (e .ver) 0))))))
 
 -- every scanned page passes with those before it
-unfoldable pub pagesGood : ℕ → List Entry → Bool
-pagesGood logical es = allHeads (entryGood logical) [] es
+unfoldable pub pagesGood : ℕ → ℕ → List Entry → Bool
+pagesGood planes logical es = allHeads (entryGood planes logical) [] es
 
 -- ---- the commit rule
 -- the entries of an identifier, in scan order
@@ -51,16 +57,25 @@ pagesOf es e = cond (eqb (e .id) 0) (e ∷ []) (ofId (e .id) es)
 unfoldable pub committed : List Entry → Entry → Bool
 committed es e = isMark e && eqb (e .cnt) (length (pagesOf es e))
 
--- ---- what is applied: "by rising TxVer, the pages of one in scan order"
+-- ---- what is applied: "by rising TxVer, the pages of one in scan order"; on two planes by their write number
+-- the entries numbered 0 to n, in turn
+unfoldable pub byNumber : ℕ → List Entry → List Entry
+byNumber zero es = those (λ (e : Entry). eqb (e .reserved) 0) es
+byNumber (suc n) es = byNumber n es ++ those (λ (e : Entry). eqb (e .reserved) (suc n)) es
+
+-- the pages of a transaction in the order in which they are applied: "the higher one holds"
+unfoldable pub inTurn : ℕ → List Entry → List Entry
+inTurn planes es = cond (eqb planes 2) (byNumber 41 es) es
+
 -- the pages of the committed transactions of version v whose marks stand in ys
-unfoldable pub txnsIn : List Entry → ℕ → List Entry → List Entry
-txnsIn es v [] = []
-txnsIn es v (y ∷ ys) = keep (eqb (y .ver) v && committed es y) (pagesOf es y) ++ txnsIn es v ys
+unfoldable pub txnsIn : ℕ → List Entry → ℕ → List Entry → List Entry
+txnsIn planes es v [] = []
+txnsIn planes es v (y ∷ ys) = keep (eqb (y .ver) v && committed es y) (inTurn planes (pagesOf es y)) ++ txnsIn planes es v ys
 
 -- the versions floor + 1 .. floor + k, in turn
-unfoldable pub span : List Entry → ℕ → ℕ → List Entry
-span es floor zero = []
-span es floor (suc k) = span es floor k ++ txnsIn es (floor + suc k) es
+unfoldable pub span : ℕ → List Entry → ℕ → ℕ → List Entry
+span planes es floor zero = []
+span planes es floor (suc k) = span planes es floor k ++ txnsIn planes es (floor + suc k) es
 
 -- the highest version
 unfoldable pub top : List Entry → ℕ
@@ -68,8 +83,8 @@ top [] = 0
 top (e ∷ es) = max (e .ver) (top es)
 
 -- "Committed ones with TxVer above the checkpoint's last version", up to the highest
-unfoldable pub applied : ℕ → List Entry → List Entry
-applied floor es = span es floor (top es - floor)
+unfoldable pub applied : ℕ → ℕ → List Entry → List Entry
+applied planes floor es = span planes es floor (top es - floor)
 
 -- whether a page drops its logical page, and what it leaves in the map
 abbrev pub isDrop : Entry → Bool
@@ -84,5 +99,5 @@ enter m [] = m
 enter m (e ∷ es) = enter (enterPage m (e .lpn) (leadsTo e)) es
 
 -- the checkpoint's map with the applied pages entered
-unfoldable pub redone : ℕ → List Entry → List ℕ → List ℕ
-redone floor es m = enter m (applied floor es)
+unfoldable pub redone : ℕ → ℕ → List Entry → List ℕ → List ℕ
+redone planes floor es m = enter m (applied planes floor es)

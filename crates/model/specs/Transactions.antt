@@ -1,5 +1,5 @@
 -- The commands of an open change: begin, write, drop, lone write, commit, abort, read. Each says what it plans on what it is handed.
-use Prim.Native.Nat.{ℕ, zero, suc, _+_, _-_, _*_}
+use Prim.Native.Nat.{ℕ, zero, suc, _+_, _-_, _*_, _/_}
 use mathlib.Core.Bool.{Bool, true, false, not, cond, _&&_, _||_}
 use mathlib.Core.List.{List, []}
 use lib.ListN.{length, getD, set, replicate}
@@ -7,9 +7,10 @@ use lib.Dec.{leb, ltb, eqb}
 use Rattle.model.specs.Lists.{find, part, splice}
 use Rattle.model.specs.Page.{pageBytes, dataAt}
 use Rattle.model.specs.Geometry.{unmapped, enterPage, leads}
-use Rattle.model.specs.Zones.{availableOf, cleanIn, nextIn, scanOf, onPages, hasId, active}
+use Rattle.model.specs.Zones.{availableOf, cleanIn, nextIn, planeOf, takenFrom, scanOf, onPages, hasId, active}
 use Rattle.model.specs.World.{World, Op, none, program, Plan, refuse}
 use Rattle.model.specs.Frame.{noPlace, freePlace, badId, gate}
+use Rattle.model.specs.declared.Geometry.{Geometry}
 use Rattle.model.specs.declared.Place.{Place}
 use Rattle.model.specs.declared.State.{State}
 
@@ -33,6 +34,7 @@ withPlace s i p =
       front = s .front;
       first = s .first;
       work = s .work;
+      last = s .last;
       places = set (s .places) i p;
     }
 
@@ -47,6 +49,22 @@ withVersion s v =
       front = s .front;
       first = s .first;
       work = s .work;
+      last = s .last;
+      places = s .places;
+    }
+
+-- the state when a page of block b was the last data block page
+unfoldable pub withLast : State → ℕ → State
+withLast s b =
+    record {
+      geometry = s .geometry;
+      zones = s .zones;
+      version = s .version;
+      checkpoint = s .checkpoint;
+      front = s .front;
+      first = s .first;
+      work = s .work;
+      last = cond (eqb (s .geometry .planes) 2) (planeOf b) (s .last);
       places = s .places;
     }
 
@@ -56,7 +74,12 @@ cleanPages w = cleanIn (w .array) (w .state .geometry .pages) (availableOf (w .s
 
 -- the page to be programmed next
 abbrev pub nextPage : World → ℕ
-nextPage w = nextIn (w .array) (w .state .geometry .pages) (availableOf (w .state .zones))
+nextPage w =
+    nextIn (w .array) (w .state .geometry .pages) (takenFrom (w .state .geometry) (w .state .last) (w .array) (availableOf (w .state .zones)))
+
+-- the state when it is programmed
+abbrev pub taking : World → State
+taking w = withLast (w .state) (nextPage w / w .state .geometry .pages)
 
 -- 12: "a page must be programmed and clean available pages ≤ P"
 abbrev pub zoneShort : World → Bool
@@ -65,6 +88,10 @@ zoneShort w = leb (cleanPages w) (w .state .geometry .pages)
 -- 13: "a number above 0xFFFFFFFE would be needed", n numbers after v
 abbrev pub spent : ℕ → ℕ → Bool
 spent v n = ltb 4294967294 (v + n)
+
+-- Reserved of the n-th page of a transaction: "the write number within the transaction" on two planes, else 0
+unfoldable pub numberOf : Geometry → ℕ → ℕ
+numberOf g n = cond (eqb (g .planes) 2) n 0
 
 -- a data page: Kind and Reserved 0
 unfoldable pub dataBytes : List ℕ → ℕ → ℕ → ℕ → ℕ → List ℕ
@@ -75,8 +102,8 @@ abbrev pub pageKind : Bool → ℕ
 pageKind true = 3
 pageKind false = 0
 
-unfoldable pub changeBytes : List ℕ → Bool → ℕ → ℕ → ℕ → ℕ → List ℕ
-changeBytes d drop lpn cnt id ver = pageBytes d (record { lpn = lpn; cnt = cnt; id = id; ver = ver; kind = pageKind drop; reserved = 0 })
+unfoldable pub changeBytes : List ℕ → Bool → ℕ → ℕ → ℕ → ℕ → ℕ → List ℕ
+changeBytes d drop lpn cnt id ver number = pageBytes d (record { lpn = lpn; cnt = cnt; id = id; ver = ver; kind = pageKind drop; reserved = number })
 
 -- the held bytes of place i: "at 512 bytes times its place"
 unfoldable pub heldAt : ℕ → List ℕ → List ℕ
@@ -131,7 +158,13 @@ written p k lpn drop =
 
 -- "The next write first programs the held page with TxCnt 0 and TxVer 0"
 unfoldable pub heldOp : World → ℕ → Place → Op
-heldOp w i p = cond (eqb (p .count) 0) none (program (nextPage w) (changeBytes (heldAt i (w .hold)) (heldDrop p) (heldPage p) 0 (p .id) 0))
+heldOp w i p =
+    cond (eqb (p .count) 0) none
+    (program (nextPage w) (changeBytes (heldAt i (w .hold)) (heldDrop p) (heldPage p) 0 (p .id) 0 (numberOf (w .state .geometry) (p .count))))
+
+-- the state when it is
+unfoldable pub heldState : World → Place → State
+heldState w p = cond (eqb (p .count) 0) (w .state) (taking w)
 
 -- the held page is programmed, the new one held
 unfoldable pub writePlan : ℕ → Place → ℕ → Bool → List ℕ → World → Plan
@@ -141,7 +174,7 @@ writePlan i p lpn drop d w =
       op = heldOp w i p;
       map = w .map;
       hold = holdWith (w .hold) i d;
-      state = withPlace (w .state) i (written p (nextPage w) lpn drop);
+      state = withPlace (heldState w p) i (written p (nextPage w) lpn drop);
     }
 
 -- one page more in a change: 5, 8, 10, 12
@@ -184,7 +217,7 @@ lonePlan lpn d w =
       op = loneOp lpn d w;
       map = loneMap lpn w;
       hold = w .hold;
-      state = withVersion (w .state) (w .state .version + 1);
+      state = withVersion (taking w) (w .state .version + 1);
     }
 
 -- lone write
@@ -211,10 +244,10 @@ markPlan i p w =
     let k = nextPage w in
     record {
       answer = 0;
-      op = program k (changeBytes (heldAt i (w .hold)) (heldDrop p) (heldPage p) (p .count) (p .id) (s .version + 1));
+      op = program k (changeBytes (heldAt i (w .hold)) (heldDrop p) (heldPage p) (p .count) (p .id) (s .version + 1) (numberOf (s .geometry) (p .count)));
       map = entered (w .map) (p .lpns) (set (p .ppns) (p .count - 1) k) (p .drops) (p .count);
       hold = w .hold;
-      state = withPlace (withVersion s (s .version + 1)) i freePlace;
+      state = withPlace (withVersion (taking w) (s .version + 1)) i freePlace;
     }
 
 -- "Abort forgets the place"; "With nothing written, commit is done with no page and no version"

@@ -1,5 +1,5 @@
 -- Zones: clean pages, scan order, and what a checkpoint moves.
-use Prim.Native.Nat.{ℕ, zero, suc, _+_, _-_, _*_}
+use Prim.Native.Nat.{ℕ, zero, suc, _+_, _-_, _*_, _%_}
 use mathlib.Core.Bool.{Bool, true, false, not, cond, _&&_, _||_}
 use mathlib.Core.List.{List, [], _∷_, _++_}
 use lib.ListN.{length, take, getD, replicate}
@@ -11,6 +11,8 @@ use Rattle.model.specs.declared.Geometry.{Geometry}
 use Rattle.model.specs.declared.Spare.{Spare}
 use Rattle.model.specs.declared.Zones.{Zones}
 use Rattle.model.specs.declared.Place.{Place}
+use Rattle.model.specs.declared.Plane.{Plane}
+use Rattle.model.specs.declared.Plane.the-variants.{Neither, Even, Odd}
 
 -- ---- "Every data block is in one zone: free, available, unavailable, checkpointed"
 -- the lists of a zone record; a data block in none of them is checkpointed
@@ -86,6 +88,27 @@ cleanIn xs p (b ∷ bs) = (p - usedIn xs p b) + cleanIn xs p bs
 unfoldable pub nextIn : List ℕ → ℕ → List ℕ → ℕ
 nextIn xs p [] = 0
 nextIn xs p (b ∷ bs) = cond (ltb (usedIn xs p b) p) (b * p + usedIn xs p b) (nextIn xs p bs)
+
+-- ---- two planes: "an even and an odd block"
+unfoldable pub isOdd : ℕ → Bool
+isOdd b = eqb (b % 2) 1
+
+-- the plane of a block
+unfoldable pub planeOf : ℕ → Plane
+planeOf b = cond (isOdd b) Odd Even
+
+-- a block of "the other plane than the last"
+unfoldable pub otherPlane : Plane → ℕ → Bool
+otherPlane Neither b = false
+otherPlane Even b = isOdd b
+otherPlane Odd b = not (isOdd b)
+
+-- the available blocks from which the next data block page is taken: "from the other plane than the last, if it has clean pages
+-- (the first after format or recover by 01's rule)"
+unfoldable pub takenFrom : Geometry → Plane → List ℕ → List ℕ → List ℕ
+takenFrom g last xs bs =
+    let other = those (otherPlane last) bs in
+    cond (eqb (g .planes) 2 && ltb 0 (cleanIn xs (g .pages) other)) other bs
 
 -- ---- scan order
 -- a whole page: its number and its spare area

@@ -5,11 +5,12 @@ ghost use Rattle.model.specs.Geometry.{leads};
 ghost use Rattle.model.specs.Frame.{freePlace, freshState};
 ghost use Rattle.model.specs.Zones.{noZones};
 
-/// The shape of a device: blocks, pages a block, logical pages.
+/// The shape of a device: blocks, pages a block, logical pages, planes.
 pub struct Geometry {
     pub blocks: u16,
     pub pages: u16,
     pub logical: u16,
+    pub planes: u16,
 }
 
 impl Geometry {
@@ -123,6 +124,13 @@ pub struct Zones {
     pub pointer: u8,
 }
 
+/// The plane of the last data block page on a device of two planes; neither after format and recover.
+pub enum Plane {
+    Neither,
+    Even,
+    Odd,
+}
+
 /// The work under way. Format: strides done. Checkpoint: pages programmed. Reclaim picks anew at each stride.
 pub enum Work {
     Idle,
@@ -141,6 +149,7 @@ pub struct State {
     pub front: u8,
     pub first: u8,
     pub work: Work,
+    pub last: Plane,
     pub places: [Place; 8],
 }
 
@@ -235,6 +244,7 @@ impl State {
             front: 0,
             first: 0,
             work: Work::Idle,
+            last: Plane::Neither,
             places: ps,
         }
     }

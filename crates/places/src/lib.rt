@@ -2,12 +2,13 @@
 ghost use mathlib.Core.Path.{_≡_};
 ghost use Prim.Native.Nat.{_+_, _<_};
 ghost use Rattle.model.specs.Lists.{find};
-ghost use Rattle.model.specs.Zones.{hasId, active};
+ghost use Rattle.model.specs.Zones.{hasId, active, planeOf};
 ghost use Rattle.model.specs.Frame.{badId};
-ghost use Rattle.model.specs.Transactions.{placeOf, withPlace, withVersion, begun, written};
+ghost use Rattle.model.specs.Transactions.{placeOf, withPlace, withVersion, withLast, begun, written};
 ghost use Rattle.model.specs.Strides.{withWork, withZones, withNumber};
 ghost use Rattle.places.specs.Ids.{idsOf, activeIn};
 use model::Place;
+use model::Plane;
 use model::State;
 use model::Work;
 use model::Zones;
@@ -161,6 +162,7 @@ pub fn with_work(s: State, front: u8, first: u8, work: Work) -> State
 {
     let g = s.geometry;
     let z = s.zones;
+    let last = s.last;
     let ps = s.places;
     State {
         geometry: g,
@@ -170,6 +172,41 @@ pub fn with_work(s: State, front: u8, first: u8, work: Work) -> State
         front,
         first,
         work,
+        last,
+        places: ps,
+    }
+}
+
+/// The plane of a block.
+fn plane_of(b: usize) -> Plane
+    ensures { λ r. ⌜ r ≡ planeOf b ⌝ }
+{
+    if b % 2 == 1 {
+        return Plane::Odd;
+    }
+    Plane::Even
+}
+
+/// The state when a page of block b was the last data block page. On one plane that is the same state.
+pub fn with_last(s: State, b: usize) -> State
+    ensures { λ r. ⌜ r ≡ withLast s b ⌝ }
+{
+    if s.geometry.planes != 2 {
+        return s;
+    }
+    let g = s.geometry;
+    let z = s.zones;
+    let work = s.work;
+    let ps = s.places;
+    State {
+        geometry: g,
+        zones: z,
+        version: s.version,
+        checkpoint: s.checkpoint,
+        front: s.front,
+        first: s.first,
+        work,
+        last: plane_of(b),
         places: ps,
     }
 }

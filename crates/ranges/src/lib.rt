@@ -1,9 +1,10 @@
 // Whether a geometry, the lent buffers, a map and zone lists are in range: what refusals 1 and 3 share.
 ghost use mathlib.Core.Path.{_≡_};
-ghost use mathlib.Core.Bool.{true, _&&_};
-ghost use Prim.Native.Nat.{ℕ, _+_, _-_, _*_, _≤_, _<_};
+ghost use mathlib.Core.Bool.{true, _&&_, _||_};
+ghost use Prim.Native.Nat.{_+_, _-_, _*_, _≤_, _<_};
 ghost use mathlib.Core.List.{[]};
 ghost use lib.ListN.{length, take, drop};
+ghost use lib.Dec.{eqb};
 ghost use Rattle.model.specs.Lists.{allHeads, rising};
 ghost use Rattle.model.specs.Geometry.{geometryOk, lengthsOk, mapPages, mapOk};
 ghost use Rattle.model.specs.Zones.{newBlock, zoneListsOk, zonesOk};
@@ -19,6 +20,16 @@ const FRONT: usize = Geometry::FRONT_BLOCKS as usize;
 
 /// The first data block.
 const FIRST: u8 = Geometry::FRONT_BLOCKS as u8;
+
+/// Whether a device may have this many planes.
+fn planes_ok(planes: u16) -> bool
+    ensures { λ r. ⌜ r ≡ (eqb planes 1 || eqb planes 2) ⌝ }
+{
+    if planes == 1 {
+        return true;
+    }
+    planes == 2
+}
 
 /// Whether a geometry is in range.
 pub fn geometry_ok(g: Geometry) -> bool
@@ -42,7 +53,10 @@ pub fn geometry_ok(g: Geometry) -> bool
     if g.logical > Geometry::MAX_LOGICAL {
         return false;
     }
-    g.logical <= (g.blocks - Geometry::SPARE_BLOCKS) * g.pages
+    if g.logical > (g.blocks - Geometry::SPARE_BLOCKS) * g.pages {
+        return false;
+    }
+    planes_ok(g.planes)
 }
 
 /// Whether the lent buffers have the lengths that a geometry asks.

@@ -1,5 +1,5 @@
 -- Redo by the best version: where refusal 4 passes the scan, what is redone by rising version is redone by one pass over the pages, in any order that
--- keeps those of each identifier in scan order. A page's rank is the version of its committed transaction.
+-- has those of each identifier in turn. A page's rank is the version of its committed transaction.
 use mathlib.Core.Path.{_≡_, refl, sym, ap, _∙_}
 use mathlib.Core.Logic.{_⊎_, inl, inr, _≢_}
 use mathlib.Core.Bool.{Bool, true, false, not, _&&_}
@@ -11,13 +11,14 @@ use lib.Dec.{eqb, leb}
 use borrow.Author.Tests.{leb-true, leb-false, eq-eqb, ne-eqb, eqb-true}
 use Rattle.model.specs.Lists.{those}
 use Rattle.model.specs.Zones.{Entry}
-use Rattle.model.specs.Recovery.{isMark, pagesGood, ofId, pagesOf, committed, txnsIn, span, top, applied, redone}
+use Rattle.model.specs.Recovery.{isMark, pagesGood, ofId, pagesOf, committed, inTurn, txnsIn, span, top, applied, redone}
 use Rattle.arrays.specs.Tests.{Is, eqb-cases, decide, clash, not-so, and-left, and-right, those-append}
-use Rattle.ranks.specs.Dealt.{every, each-map, digit-own, digit-other, those-off}
+use Rattle.ranks.specs.Dealt.{every, each-map, passed, digit-own, those-off, those-on}
 use Rattle.arrays.specs.Insert.{Insert, here, there, those-in}
 use Rattle.ranks.specs.Entries.{Entries, entries-in, entries-out, entries-both, entries-those, those-entries, those-same, those-alone}
 use Rattle.ranks.specs.Entries.{Found, none, one, search-in}
 use Rattle.ranks.specs.Clear.{Clear, clear-sym, Pairs, Good, passed-good}
+use Rattle.ranks.specs.InTurn.{turn-nil, entries-turn, those-turn}
 use Rattle.ranks.specs.Pass.{bestOf, startBest, level, Climbs, climbs-append, climbs-flat, enter-best}
 
 -- ---- the rank of a page
@@ -108,18 +109,22 @@ unfolding committed
 committed-mark es e h q = clash (and-left (isMark e) _ h) (rw (eq-eqb (e .cnt) 0 q))
 
 -- one entry with each of the others
-pairs-out : (y : Entry) {xs es : List Entry} → Insert y xs es → Pairs Clear es → Entries (Clear y) xs
-pairs-out y (here xs) p = p .0
-pairs-out y (there x i) p = (clear-sym x y (entries-out (Clear x) y i (p .0) .0), pairs-out y i (p .1))
+pairs-out : (planes : ℕ) (y : Entry) {xs es : List Entry} → Insert y xs es → Pairs (Clear planes) es → Entries (Clear planes y) xs
+pairs-out planes y (here xs) p = p .0
+pairs-out planes y (there x i) p = (clear-sym planes x y (entries-out (Clear planes x) y i (p .0) .0), pairs-out planes y i (p .1))
 
 -- ---- the pages of a version
-module _ (logical : ℕ) (es : List Entry) (g : Good logical es) where
+module _ (planes logical : ℕ) (es : List Entry) (g : Good planes logical es) where
   abbrev ver : Entry → ℕ
   ver = verOf es
 
   -- the pages of the committed transaction of version v
   abbrev layer : ℕ → List Entry
   layer v = level ver v es
+
+  -- in turn
+  abbrev turned : ℕ → List Entry
+  turned v = inTurn planes (layer v)
 
   -- y commits version v
   abbrev gives : ℕ → Entry → Bool
@@ -135,15 +140,15 @@ module _ (logical : ℕ) (es : List Entry) (g : Good logical es) where
   off-gives : (v : ℕ) (y : Entry) → Off v y → gives v y ≡ false
   off-gives v y h = not-so (gives v y) (λ t. h (and-right (eqb (y .ver) v) _ t) (eqb-true (y .ver) v (and-left (eqb (y .ver) v) _ t)))
 
-  txns-none : (v : ℕ) (ys : List Entry) → Entries (λ (y : Entry). gives v y ≡ false) ys → txnsIn es v ys ≡ []
+  txns-none : (v : ℕ) (ys : List Entry) → Entries (λ (y : Entry). gives v y ≡ false) ys → txnsIn planes es v ys ≡ []
   unfolding txnsIn
   txns-none v [] h = refl
   txns-none v (y ∷ ys) h = rw (h .0) (txns-none v ys (h .1))
 
   txns-alone : (v : ℕ) (y : Entry) {xs ys : List Entry} → Insert y xs ys → gives v y ≡ true → Entries (λ (y : Entry). gives v y ≡ false) xs
-      → txnsIn es v ys ≡ pagesOf es y
+      → txnsIn planes es v ys ≡ inTurn planes (pagesOf es y)
   unfolding txnsIn
-  txns-alone v y (here xs) h k = rw (h, txns-none v xs k) (append-nil (pagesOf es y))
+  txns-alone v y (here xs) h k = rw (h, txns-none v xs k) (append-nil (inTurn planes (pagesOf es y)))
   txns-alone v y (there x i) h k = rw (k .0) (txns-alone v y i h (k .1))
 
   -- no page of e's transaction commits version v
@@ -166,8 +171,8 @@ module _ (logical : ℕ) (es : List Entry) (g : Good logical es) where
     com-y : committed es y ≡ true
     com-y = and-right (eqb (y .ver) v) (committed es y) h
 
-    clears : Entries (Clear y) xs
-    clears = pairs-out y i (g .pairs)
+    clears : Entries (Clear planes y) xs
+    clears = pairs-out planes y i (g .pairs)
 
     -- by no other
     others : Entries (Off v) xs
@@ -213,47 +218,51 @@ module _ (logical : ℕ) (es : List Entry) (g : Good logical es) where
   layer-none : (v : ℕ) → v ≢ 0 → Entries (λ (y : Entry). gives v y ≡ false) es → layer v ≡ []
   layer-none v nz h = those-off _ es (each-map _ _ (λ e k. ne-eqb (ver e) v k) es (ver-none v nz h))
 
-  -- the transactions of a version are its layer
-  txns-layer : (v : ℕ) → v ≢ 0 → txnsIn es v es ≡ layer v
+  -- the transactions of a version are its layer, in turn
+  txns-layer : (v : ℕ) → v ≢ 0 → txnsIn planes es v es ≡ turned v
   txns-layer v nz = go (search-in (gives v) es)
     where
-      go : Found (gives v) es → txnsIn es v es ≡ layer v
-      go (none h) = txns-none v es h ∙ sym (layer-none v nz h)
-      go (one y xs i h) = txns-alone v y i h (each-map _ _ (off-gives v) xs (others v nz y xs i h)) ∙ sym (layer-one v nz y xs i h)
+      go : Found (gives v) es → txnsIn planes es v es ≡ turned v
+      go (none h) = txns-none v es h ∙ sym (turn-nil planes) ∙ ap (inTurn planes) (sym (layer-none v nz h))
+      go (one y xs i h) = txns-alone v y i h (each-map _ _ (off-gives v) xs (others v nz y xs i h)) ∙ ap (inTurn planes) (sym (layer-one v nz y xs i h))
+
+  -- each of its pages has that version
+  turned-ver : (v : ℕ) → Entries (λ (e : Entry). ver e ≡ v) (turned v)
+  turned-ver v = entries-turn _ planes (layer v) (each-map _ _ (λ e t. eqb-true (ver e) v t) (layer v) (passed (λ (e : Entry). eqb (ver e) v) es))
 
   -- ---- what is applied, by layers
   -- its versions rise
-  span-climbs : (floor k : ℕ) → Climbs ver (suc floor) (suc (floor + k)) (span es floor k)
+  span-climbs : (floor k : ℕ) → Climbs ver (suc floor) (suc (floor + k)) (span planes es floor k)
   unfolding span
   span-climbs floor zero = omega arith
   span-climbs floor (suc k) =
       let v = floor + suc k in
-      climbs-append ver (suc floor) (suc (floor + k)) (suc v) (span es floor k) (txnsIn es v es) (span-climbs floor k)
-      (rw (txns-layer v (λ q. absurd (omega arith))) (climbs-flat ver (suc (floor + k)) (suc v) v (layer v) (omega arith) (omega arith)
-      (entries-those _ _ es (every _ (λ e t. eqb-true (ver e) v t) es))))
+      climbs-append ver (suc floor) (suc (floor + k)) (suc v) (span planes es floor k) (txnsIn planes es v es) (span-climbs floor k)
+      (rw (txns-layer v (λ q. absurd (omega arith))) (climbs-flat ver (suc (floor + k)) (suc v) v (turned v) (omega arith) (omega arith) (turned-ver v)))
 
-  txns-own : (v : ℕ) → v ≢ 0 → level ver v (txnsIn es v es) ≡ layer v
-  txns-own v nz = ap (level ver v) (txns-layer v nz) ∙ digit-own ver (λ (e : Entry). eqb (ver e) v) v es (every _ (λ e t. eqb-true (ver e) v t) es)
+  txns-own : (v : ℕ) → v ≢ 0 → level ver v (txnsIn planes es v es) ≡ turned v
+  txns-own v nz = ap (level ver v) (txns-layer v nz) ∙ those-on _ (turned v) (each-map _ _ (λ e q. eq-eqb (ver e) v q) (turned v) (turned-ver v))
 
-  txns-other : (v r : ℕ) → v ≢ 0 → r ≢ v → level ver r (txnsIn es v es) ≡ []
-  txns-other v r nz h = ap (level ver r) (txns-layer v nz) ∙ digit-other ver (λ (e : Entry). eqb (ver e) r) r v es h (every _ (λ e t. eqb-true (ver e) r t) es)
+  txns-other : (v r : ℕ) → v ≢ 0 → r ≢ v → level ver r (txnsIn planes es v es) ≡ []
+  txns-other v r nz h =
+      ap (level ver r) (txns-layer v nz) ∙ those-off _ (turned v) (each-map _ _ (λ e q. ne-eqb (ver e) r (λ k. h (sym k ∙ q))) (turned v) (turned-ver v))
 
-  span-out : (floor k r : ℕ) → floor + k < r → level ver r (span es floor k) ≡ []
+  span-out : (floor k r : ℕ) → floor + k < r → level ver r (span planes es floor k) ≡ []
   unfolding span those
   span-out floor zero r h = refl
   span-out floor (suc k) r h =
-      those-append _ (span es floor k) (txnsIn es (floor + suc k) es)
+      those-append _ (span planes es floor k) (txnsIn planes es (floor + suc k) es)
       ∙ rw (span-out floor k r (omega arith), txns-other (floor + suc k) r (λ q. absurd (omega arith)) (λ q. absurd (omega arith)))
 
-  span-in : (floor k r : ℕ) → floor < r → r ≤ floor + k → level ver r (span es floor k) ≡ layer r
+  span-in : (floor k r : ℕ) → floor < r → r ≤ floor + k → level ver r (span planes es floor k) ≡ turned r
   unfolding span
   span-in floor zero r h j = absurd (omega arith)
-  span-in floor (suc k) r h j = those-append _ (span es floor k) (txnsIn es (floor + suc k) es) ∙ go (eqb-cases r (floor + suc k)) (span-in floor k r h)
+  span-in floor (suc k) r h j = those-append _ (span planes es floor k) (txnsIn planes es (floor + suc k) es) ∙ go (eqb-cases r (floor + suc k)) (span-in floor k r h)
     where
-      go : Is r (floor + suc k) → (r ≤ floor + k → level ver r (span es floor k) ≡ layer r)
-          → level ver r (span es floor k) ++ level ver r (txnsIn es (floor + suc k) es) ≡ layer r
+      go : Is r (floor + suc k) → (r ≤ floor + k → level ver r (span planes es floor k) ≡ turned r)
+          → level ver r (span planes es floor k) ++ level ver r (txnsIn planes es (floor + suc k) es) ≡ turned r
       go (inl q) ih = rw (span-out floor k r (omega (arith, q .0)), ← q .0) (txns-own r (λ z. absurd (omega arith)))
-      go (inr q) ih = rw (ih (omega (arith, q .0)), txns-other (floor + suc k) r (λ z. absurd (omega arith)) (q .0)) (append-nil (layer r))
+      go (inr q) ih = rw (ih (omega (arith, q .0)), txns-other (floor + suc k) r (λ z. absurd (omega arith)) (q .0)) (append-nil (turned r))
 
   -- no version is above the highest
   layer-above : (v : ℕ) → top es < v → layer v ≡ []
@@ -263,35 +272,39 @@ module _ (logical : ℕ) (es : List Entry) (g : Good logical es) where
       go (none k) = layer-none v (λ q. absurd (omega arith)) k
       go (one y xs i k) = absurd (omega (arith, top-in y i, ver-y v (λ q. absurd (omega arith)) y xs i k))
 
-  applied-layer : (floor r : ℕ) → floor < r → level ver r (applied floor es) ≡ layer r
+  applied-layer : (floor r : ℕ) → floor < r → level ver r (applied planes floor es) ≡ turned r
   unfolding applied
   applied-layer floor r h = go (decide (leb r (floor + (top es - floor))))
     where
-      go : (leb r (floor + (top es - floor)) ≡ true) ⊎ (leb r (floor + (top es - floor)) ≡ false) → level ver r (span es floor (top es - floor)) ≡ layer r
+      go : (leb r (floor + (top es - floor)) ≡ true) ⊎ (leb r (floor + (top es - floor)) ≡ false) → level ver r (span planes es floor (top es - floor)) ≡ turned r
       go (inl t) = span-in floor (top es - floor) r h (leb-true r _ t)
-      go (inr t) = let l = leb-false r (floor + (top es - floor)) t in span-out floor (top es - floor) r l ∙ sym (layer-above r (omega arith))
+      go (inr t) = let l = leb-false r (floor + (top es - floor)) t in span-out floor (top es - floor) r l ∙ sym (ap (inTurn planes) (layer-above r (omega arith)) ∙ turn-nil planes)
 
-  -- ---- the same pages, those of each identifier in scan order
-  module _ (ys : List Entry) (grouped : (i : ℕ) → ofId i ys ≡ ofId i es) where
+  -- ---- the same pages, those of each identifier in turn
+  module _ (ys : List Entry) (grouped : (i : ℕ) → ofId i ys ≡ inTurn planes (ofId i es)) where
     -- what is so of each page of the one is so of each of the other
     entries-over : (P : Entry → Type 0) → Entries P es → Entries P ys
-    entries-over P h = each ys (λ i. own-entries P i ys (rw (grouped i) (entries-own P i es (each-map _ _ (λ e p q. p) es h))))
+    entries-over P h =
+        each ys (λ i. own-entries P i ys (rw (grouped i) (entries-turn P planes (ofId i es) (entries-own P i es (each-map _ _ (λ e p q. p) es h)))))
       where
         each : (zs : List Entry) → ((i : ℕ) → Entries (λ (z : Entry). z .id ≡ i → P z) zs) → Entries P zs
         each [] k = tt
         each (z ∷ zs) k = (k (z .id) .0 refl, each zs (λ i. k i .1))
 
     -- a version above 0 is of one identifier
-    layer-grouped : (v : ℕ) → v ≢ 0 → layer v ≡ level ver v ys
+    layer-grouped : (v : ℕ) → v ≢ 0 → turned v ≡ level ver v ys
     unfolding ofId
     layer-grouped v nz = go (search-in (gives v) es)
       where
-        go : Found (gives v) es → layer v ≡ level ver v ys
-        go (none h) = layer-none v nz h ∙ sym (those-off _ ys (each-map _ _ (λ e k. ne-eqb (ver e) v k) ys (entries-over _ (ver-none v nz h))))
+        go : Found (gives v) es → turned v ≡ level ver v ys
+        go (none h) =
+            ap (inTurn planes) (layer-none v nz h) ∙ turn-nil planes
+            ∙ sym (those-off _ ys (each-map _ _ (λ e k. ne-eqb (ver e) v k) ys (entries-over _ (ver-none v nz h))))
         go (one y xs i h) =
             let own : Entries (λ (e : Entry). eqb (ver e) v ≡ true → e .id ≡ y .id) es
             = each-map _ _ (λ e f t. is e f (eqb-true (ver e) v t) (eqb-cases (e .id) (y .id))) es (ver-apart v nz y xs i h) in
-            sym (digit-own (λ (e : Entry). e .id) _ (y .id) es own)
+            ap (inTurn planes) (sym (digit-own (λ (e : Entry). e .id) _ (y .id) es own))
+            ∙ sym (those-turn (λ (e : Entry). eqb (ver e) v) planes (ofId (y .id) es))
             ∙ ap (level ver v) (sym (grouped (y .id)))
             ∙ digit-own (λ (e : Entry). e .id) _ (y .id) ys (entries-over _ own)
           where
@@ -301,10 +314,10 @@ module _ (logical : ℕ) (es : List Entry) (g : Good logical es) where
 
 -- ---- redo by the best version
 -- the map that recovery redoes, by one pass over the scan's pages in such an order
-pub best-redone : (logical floor : ℕ) (es ys : List Entry) (m : List ℕ) → pagesGood logical es ≡ true → ((i : ℕ) → ofId i ys ≡ ofId i es)
-    → redone floor es m ≡ bestPass floor es ys m
+pub best-redone : (planes logical floor : ℕ) (es ys : List Entry) (m : List ℕ) → pagesGood planes logical es ≡ true
+    → ((i : ℕ) → ofId i ys ≡ inTurn planes (ofId i es)) → redone planes floor es m ≡ bestPass floor es ys m
 unfolding redone bestPass rankOf applied
-best-redone logical floor es ys m h grouped =
-    let g = passed-good logical es h in
-    enter-best (verOf es) (suc floor) (suc (floor + (top es - floor))) (applied floor es) ys m (span-climbs logical es g floor (top es - floor))
-    (λ v l. applied-layer logical es g floor v l ∙ layer-grouped logical es g ys grouped v (λ q. absurd (omega arith)))
+best-redone planes logical floor es ys m h grouped =
+    let g = passed-good planes logical es h in
+    enter-best (verOf es) (suc floor) (suc (floor + (top es - floor))) (applied planes floor es) ys m (span-climbs planes logical es g floor (top es - floor))
+    (λ v l. applied-layer planes logical es g floor v l ∙ layer-grouped planes logical es g ys grouped v (λ q. absurd (omega arith)))

@@ -1,16 +1,17 @@
--- Refusal 4 in parts, as a program can ask for them in any order: each page by itself, no version twice among the marks, and no nonzero identifier
--- twice among them.
+-- Refusal 4 in parts, as a program can ask for them in any order: each page by itself, no version twice among the marks, no nonzero identifier twice
+-- among them, and on two planes no number twice among the pages of a change.
 use mathlib.Core.Path.{_≡_, _∙_}
 use mathlib.Core.Logic.{_⊎_, inl, inr, _≢_}
-use mathlib.Core.Bool.{Bool, true, false, not}
-use Prim.Native.Nat.{ℕ}
+use mathlib.Core.Bool.{Bool, true, false, not, _&&_}
+use Prim.Native.Nat.{ℕ, _+_, _*_, _≤_}
+use native.Mathlib.Omega.{arith}
 use mathlib.Core.List.{List, [], _∷_, _++_}
-use lib.Dec.{eqb}
-use borrow.Author.Tests.{ne-eqb, eqb-false, not-true}
-use Rattle.model.specs.Lists.{keep, those}
+use lib.Dec.{eqb, leb}
+use borrow.Author.Tests.{eq-eqb, ne-eqb, eqb-false, not-true, leb-true}
+use Rattle.model.specs.Lists.{all, keep, those}
 use Rattle.model.specs.Zones.{Entry}
-use Rattle.model.specs.Recovery.{isMark, pagesGood}
-use Rattle.arrays.specs.Tests.{decide, clash}
+use Rattle.model.specs.Recovery.{isMark, kindGood, numberGood, entryGood, pagesGood}
+use Rattle.arrays.specs.Tests.{Is, eqb-cases, decide, clash, and-left, and-right}
 use Rattle.ranks.specs.Dealt.{every, each-map, Distinct}
 use Rattle.ranks.specs.Entries.{Entries, entries-both, entries-those, those-entries}
 use Rattle.ranks.specs.Clear.{Fine, Clear, Pairs, passed-good, good-passes}
@@ -27,6 +28,16 @@ pairs-both P Q R t (e ∷ es) h k = (entries-both (P e) (Q e) (R e) (t e) es (h 
 pairs-map : (R S : Entry → Entry → Type 0) → ((x y : Entry) → R x y → S x y) → (es : List Entry) → Pairs R es → Pairs S es
 pairs-map R S t [] h = tt
 pairs-map R S t (e ∷ es) h = (each-map (R e) (S e) (t e) es (h .0), pairs-map R S t es (h .1))
+
+pairs-all : (R : Entry → Entry → Type 0) → ((x y : Entry) → R x y) → (es : List Entry) → Pairs R es
+pairs-all R t [] = tt
+pairs-all R t (e ∷ es) = (every (R e) (t e) es, pairs-all R t es)
+
+-- with what is so of each
+pairs-fine : (P : Entry → Type 0) (R : Entry → Entry → Type 0) {S : Entry → Entry → Type 0} → ((x y : Entry) → P x → P y → R x y → S x y) → (es : List Entry)
+    → Entries P es → Pairs R es → Pairs S es
+pairs-fine P R {S} t [] f h = tt
+pairs-fine P R {S} t (e ∷ es) f h = (entries-both P (R e) (S e) (λ y g r. t e y (f .0) g r) es (f .1) (h .0), pairs-fine P R t es (f .1) (h .1))
 
 -- of those that pass, and where both pass
 pairs-those : (R : Entry → Entry → Type 0) (p : Entry → Bool) (es : List Entry)
@@ -72,34 +83,75 @@ nonzero a h = rw (ne-eqb a 0 h)
 not-zero : (a : ℕ) → not (eqb a 0) ≡ true → a ≢ 0
 not-zero a h = eqb-false a 0 (not-true (eqb a 0) h)
 
--- the parts pass: refusal 4 passes
-pub parts-good : (logical : ℕ) (es : List Entry) → Entries (Fine logical) es → Distinct (λ (e : Entry). e .ver) (those isMark es)
-    → Distinct (λ (e : Entry). e .id) (those isMark (those isChange es)) → pagesGood logical es ≡ true
-parts-good logical es fine vers ids = good-passes logical es (record { fine = fine; pairs = pairs-both _ _ Clear clear es a b })
-  where
-    a : Pairs (λ (x y : Entry). isMark x ≡ true → isMark y ≡ true → x .ver ≢ y .ver) es
-    a = those-pairs _ isMark es (distinct-pairs (λ (e : Entry). e .ver) (those isMark es) vers)
+-- by identifier, then by number
+abbrev pub numberKey : Entry → ℕ
+numberKey e = e .id * 256 + e .reserved
 
-    b : Pairs (λ (x y : Entry). isChange x ≡ true → isChange y ≡ true → isMark x ≡ true → isMark y ≡ true → x .id ≢ y .id) es
-    b = those-pairs _ isChange es (those-pairs _ isMark (those isChange es) (distinct-pairs (λ (e : Entry). e .id) (those isMark (those isChange es)) ids))
+-- on two planes no page of a change has its identifier and its number twice
+abbrev pub NumbersDiffer : ℕ → List Entry → Type 0
+NumbersDiffer planes es = planes ≡ 2 → Distinct numberKey (those isChange es)
 
-    clear : (x y : Entry) → (isMark x ≡ true → isMark y ≡ true → x .ver ≢ y .ver)
-        → (isChange x ≡ true → isChange y ≡ true → isMark x ≡ true → isMark y ≡ true → x .id ≢ y .id) → Clear x y
-    clear x y u v = record {
-      ver = λ m n. u (nonzero (x .cnt) m) (nonzero (y .cnt) n);
-      id = λ m n z q. v (nonzero (x .id) z) (nonzero (y .id) (λ r. z (q ∙ r))) (nonzero (x .cnt) m) (nonzero (y .cnt) n) q;
-    }
+-- a page of a change has a number up to 41 on two planes
+pub fine-number : (planes logical : ℕ) (e : Entry) → planes ≡ 2 → isChange e ≡ true → Fine planes logical e → e .reserved ≤ 41
+unfolding entryGood numberGood all
+fine-number planes logical e two z h =
+    let n : numberGood planes [] e ≡ true = and-left (numberGood planes [] e) _ (and-right (kindGood (e .kind)) _ h) in
+    let k : (leb 1 (e .reserved) && (leb (e .reserved) 41 && true)) ≡ true = rw (eq-eqb planes 2 two, z) at n in
+    leb-true (e .reserved) 41 (and-left (leb (e .reserved) 41) true (and-right (leb 1 (e .reserved)) _ k))
 
--- and back
-pub good-fine : (logical : ℕ) (es : List Entry) → pagesGood logical es ≡ true → Entries (Fine logical) es
-good-fine logical es h = passed-good logical es h .fine
+module _ (planes logical : ℕ) (es : List Entry) where
+  -- the parts pass: refusal 4 passes
+  pub parts-good : Entries (Fine planes logical) es → Distinct (λ (e : Entry). e .ver) (those isMark es)
+      → Distinct (λ (e : Entry). e .id) (those isMark (those isChange es)) → NumbersDiffer planes es → pagesGood planes logical es ≡ true
+  parts-good fine vers ids numbers = good-passes planes logical es (record { fine = fine; pairs = pairs-both _ _ (Clear planes) clear es marks (apart (eqb-cases planes 2)) })
+    where
+      -- two marks
+      Marks : Entry → Entry → Type 0
+      Marks x y = (isMark x ≡ true → isMark y ≡ true → x .ver ≢ y .ver)
+          × (isChange x ≡ true → isChange y ≡ true → isMark x ≡ true → isMark y ≡ true → x .id ≢ y .id)
 
-pub good-versions : (logical : ℕ) (es : List Entry) → pagesGood logical es ≡ true → Distinct (λ (e : Entry). e .ver) (those isMark es)
-good-versions logical es h =
-    pairs-distinct (λ (e : Entry). e .ver) (those isMark es) (pairs-those _ isMark es
-    (pairs-map Clear _ (λ x y c m n. c .ver (not-zero (x .cnt) m) (not-zero (y .cnt) n)) es (passed-good logical es h .pairs)))
+      marks : Pairs Marks es
+      marks = pairs-both _ _ Marks (λ x y u v. (u, v)) es
+          (those-pairs _ isMark es (distinct-pairs (λ (e : Entry). e .ver) (those isMark es) vers))
+          (those-pairs _ isChange es (those-pairs _ isMark (those isChange es) (distinct-pairs (λ (e : Entry). e .id) (those isMark (those isChange es)) ids)))
 
-pub good-ids : (logical : ℕ) (es : List Entry) → pagesGood logical es ≡ true → Distinct (λ (e : Entry). e .id) (those isMark (those isChange es))
-good-ids logical es h =
-    pairs-distinct (λ (e : Entry). e .id) (those isMark (those isChange es)) (pairs-those _ isMark (those isChange es) (pairs-those _ isChange es
-    (pairs-map Clear _ (λ x y c z w m n. c .id (not-zero (x .cnt) m) (not-zero (y .cnt) n) (not-zero (x .id) z)) es (passed-good logical es h .pairs))))
+      -- two pages of changes
+      Apart : Entry → Entry → Type 0
+      Apart x y = planes ≡ 2 → isChange x ≡ true → isChange y ≡ true → numberKey x ≢ numberKey y
+
+      apart : Is planes 2 → Pairs Apart es
+      apart (inl q) = pairs-map _ Apart (λ x y f two. f) es (those-pairs _ isChange es (distinct-pairs numberKey (those isChange es) (numbers (q .0))))
+      apart (inr q) = pairs-all Apart (λ x y two. absurd (q .0 two)) es
+
+      clear : (x y : Entry) → Marks x y → Apart x y → Clear planes x y
+      clear x y m a = record {
+        ver = λ p q. m .0 (nonzero (x .cnt) p) (nonzero (y .cnt) q);
+        id = λ p q z r. m .1 (nonzero (x .id) z) (nonzero (y .id) (λ t. z (r ∙ t))) (nonzero (x .cnt) p) (nonzero (y .cnt) q) r;
+        number = λ two z r s. a two (nonzero (x .id) z) (nonzero (y .id) (λ t. z (r ∙ t))) (omega (arith, r, s));
+      }
+
+  -- and back
+  module _ (h : pagesGood planes logical es ≡ true) where
+    pub good-fine : Entries (Fine planes logical) es
+    good-fine = passed-good planes logical es h .fine
+
+    pub good-versions : Distinct (λ (e : Entry). e .ver) (those isMark es)
+    good-versions =
+        pairs-distinct (λ (e : Entry). e .ver) (those isMark es) (pairs-those _ isMark es
+        (pairs-map (Clear planes) _ (λ x y c m n. c .ver (not-zero (x .cnt) m) (not-zero (y .cnt) n)) es (passed-good planes logical es h .pairs)))
+
+    pub good-ids : Distinct (λ (e : Entry). e .id) (those isMark (those isChange es))
+    good-ids =
+        pairs-distinct (λ (e : Entry). e .id) (those isMark (those isChange es)) (pairs-those _ isMark (those isChange es) (pairs-those _ isChange es
+        (pairs-map (Clear planes) _ (λ x y c z w m n. c .id (not-zero (x .cnt) m) (not-zero (y .cnt) n) (not-zero (x .id) z)) es (passed-good planes logical es h .pairs))))
+
+    pub good-numbers : NumbersDiffer planes es
+    good-numbers two =
+        pairs-distinct numberKey (those isChange es) (pairs-those _ isChange es
+        (pairs-fine _ _ (λ x y f g c z w q. differ x y (fine-number planes logical x two z f) (fine-number planes logical y two w g) (c .number two (not-zero (x .id) z)) q)
+        es good-fine (passed-good planes logical es h .pairs)))
+      where
+        differ : (x y : Entry) → x .reserved ≤ 41 → y .reserved ≤ 41 → (x .id ≡ y .id → x .reserved ≢ y .reserved) → numberKey x ≢ numberKey y
+        differ x y l m n q =
+            let r : x .id ≡ y .id = omega arith in
+            n r (omega (arith, r))

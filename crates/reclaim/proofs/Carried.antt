@@ -1,25 +1,26 @@
 -- What the calls of a stride of reclaim do is its plan carried out, whatever the hold. Assumes nothing.
-use mathlib.Core.Path.{_≡_, sym, _∙_}
+use mathlib.Core.Path.{_≡_, refl, sym, ap, _∙_}
 use mathlib.Core.Bool.{true}
 use mathlib.Core.List.{List, [], _++_, append-nil}
 use Prim.Native.Nat.{ℕ, _+_, _-_, _*_, _≤_, _<_}
 use native.Mathlib.Omega.{arith}
-use lib.ListN.{length, take, drop, set, length-take, length-drop, drop-of-length-le}
+use lib.ListN.{length, take, drop, length-take, length-drop, drop-of-length-le}
 use lib.Seq.{take-take, take-all}
 use lib.Dec.{eqb}
 use borrow.Author.Tests.{le-leb, lt-leb, eq-eqb, ne-eqb}
 use Rattle.model.specs.Lists.{find, part}
-use Rattle.model.specs.Page.{pageBytes, pageAt, dataAt, blankAt}
-use Rattle.model.specs.Zones.{availableOf, nextIn, freed}
+use Rattle.model.specs.Page.{pageAt, dataAt, blankAt}
+use Rattle.model.specs.Zones.{freed}
 use Rattle.model.specs.Checkpoint.{Found, at, nothing}
 use Rattle.model.specs.World.{World, erase, applyOp}
-use Rattle.model.specs.Transactions.{withVersion, dataBytes}
+use Rattle.model.specs.Transactions.{withVersion, withLast, lonePlan}
 use Rattle.model.specs.Strides.{withWork, withZones, mappedIn, lowestFrom, copyStride, freeStride, reclaimStride}
-use Rattle.model.specs.Commands.{carried}
+use Rattle.model.specs.Commands.{Outcome, carried}
 use Rattle.model.specs.declared.State.{State}
 use Rattle.model.specs.declared.Work.the-variants.{Idle, Reclaim}
 use Rattle.model.specs.declared.Zones.{Zones}
-use Rattle.flash.specs.Programs.{Programmed}
+use Rattle.change.specs.Changes.{nextOf, LonePut}
+use Rattle.change.proofs.Carrying.{lastOn, lone-done}
 use Rattle.strides.specs.Strode.{Strode}
 use Rattle.reclaim.specs.Copies.{copiesNumber}
 use Rattle.reclaim.proofs.Room.{copies-spent, copies-short, copies-go}
@@ -36,18 +37,15 @@ data-copied xs j to src d z h t s l e =
     rw (n, w, append-nil, take-all 512 src (omega arith), f) at e ∙ sym (take-take 512 528 (drop (j * 528) xs) (omega arith))
 
 module _ (s : State) (xs map : List ℕ) where
-  -- ---- page j copied, k being the next page
-  pub copy-strode : (j lpn : ℕ) → lpn ≡ find (eqb j) map → (k : ℕ) → k ≡ nextIn xs (s .geometry .pages) (availableOf (s .zones))
-      → blankAt xs (nextIn xs (s .geometry .pages) (availableOf (s .zones))) ≡ true → (d : List ℕ) → d ≡ dataAt xs j
-      → (ys : List ℕ) → Programmed xs k (pageBytes d (record { lpn = lpn; cnt = 1; id = 0; ver = s .version + 1; kind = 0; reserved = 0 })) ys
-      → (t t2 : State) → t ≡ withVersion s (s .version + 1) → t2 ≡ withWork t (s .front) (s .first) Reclaim
-      → Strode (copyStride j) s xs map 255 ys (set map lpn k) t2
-  unfolding carried copyStride dataBytes withWork withVersion
-  copy-strode j lpn el k ek b d ed ys p t t2 e1 e2 hold =
-      let a = rw (ek, el, ed) at (p .applied (s .geometry .pages) (rw ek b)) in
-      let m : set map lpn k ≡ set map (find (eqb j) map) (nextIn xs (s .geometry .pages) (availableOf (s .zones))) = rw (el, ek) in
-      let e = rw e1 at e2 in
-      λ i. record { answer = 255; world = record { array = a i; map = m i; hold = hold; state = e i } }
+  -- ---- page j copied as a lone page, k being the next page
+  pub copy-strode : (j lpn : ℕ) → lpn ≡ find (eqb j) map → (d : List ℕ) → d ≡ dataAt xs j → (k : ℕ) → k ≡ nextOf s xs → blankAt xs (nextOf s xs) ≡ true
+      → (ys entries : List ℕ) → LonePut xs map k lpn (s .version + 1) d ys entries
+      → (t : State) → t ≡ withWork (withVersion (lastOn s k) (s .version + 1)) (s .front) (s .first) Reclaim → Strode (copyStride j) s xs map 255 ys entries t
+  unfolding carried copyStride lonePlan withWork withVersion withLast
+  copy-strode j lpn el d ed k ek b ys entries put t et hold =
+      let o = rw (el, ed) at (lone-done s (withVersion (lastOn s k) (s .version + 1)) xs map hold ys entries lpn d k ek b put refl) in
+      let u = et ∙ ap (λ (x : Outcome). withWork (x .world .state) (s .front) (s .first) Reclaim) o in
+      λ i. record { answer = 255; world = record { array = o i .world .array; map = o i .world .map; hold = hold; state = u i } }
 
   -- ---- block b erased and free
   pub free-strode : (b : ℕ) (ys : List ℕ) → ys ≡ applyOp (s .geometry .pages) (erase b) xs

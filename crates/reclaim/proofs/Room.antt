@@ -10,9 +10,8 @@ use lib.Seq.{length-take-le}
 use lib.Dec.{eqb, leb, ltb}
 use borrow.Author.Tests.{lt-ltb, ltb-true, ltb-false, eqb-false, not-true}
 use Rattle.model.specs.Lists.{all, any, allHeads, find, elem, rising}
-use Rattle.model.specs.Page.{blankAt}
 use Rattle.model.specs.Geometry.{geometryOk, dataBlock}
-use Rattle.model.specs.Zones.{availableOf, unavailableOf, freeOf, listedIn, newBlock, checkpointed, zoneListsOk, zonesOk, usedIn, cleanIn, nextIn}
+use Rattle.model.specs.Zones.{availableOf, unavailableOf, freeOf, listedIn, newBlock, checkpointed, zoneListsOk, zonesOk, cleanIn}
 use Rattle.model.specs.Transactions.{spent}
 use Rattle.model.specs.Strides.{mappedIn, lowestFrom}
 use Rattle.model.specs.declared.Geometry.{Geometry}
@@ -20,7 +19,6 @@ use Rattle.model.specs.declared.State.{State}
 use Rattle.model.specs.declared.Zones.{Zones}
 use Rattle.arrays.specs.Tests.{and-left, and-right, or-false-left, or-false-right, all-head, all-tail, all-weaker, tails-head, tails-tail, elem-append}
 use Rattle.arrays.specs.Ranges.{geometry-in, block-least, block-most, block-page-is, page-most, page-small, data-page-fits}
-use Rattle.arrays.specs.Scan.{each-true, next-is, next-blank, next-each}
 use Rattle.zones.proofs.Listed.{listed}
 use Rattle.strides.specs.Strode.{Fit}
 use Rattle.reclaim.specs.Copies.{copiesNumber, Copying}
@@ -80,25 +78,18 @@ module _ (g : Geometry) (z : Zones) (shape : geometryOk g ≡ true) (lists : zon
       let t = length-take-le (z .nf) (z .free) (omega arith) in
       omega arith
 
--- ---- a page that is copied, and the page that it is copied to
-pub record Places (s : State) (xs map : List ℕ) (j : ℕ) : Type 0 where
+-- ---- a page that is copied
+pub record Places (xs map : List ℕ) (j : ℕ) : Type 0 where
   pub entry : find (eqb j) map < length map
   pub entries : length map ≤ 1024
   pub «from» : j * 528 + 528 ≤ length xs
   pub number : j < 8192
-  pub to : nextIn xs (s .geometry .pages) (availableOf (s .zones)) * 528 + 528 ≤ length xs
-  pub next : nextIn xs (s .geometry .pages) (availableOf (s .zones)) < 8192
-  pub blank : blankAt xs (nextIn xs (s .geometry .pages) (availableOf (s .zones))) ≡ true
 
-pub copy-places : (s : State) (xs map : List ℕ) (j : ℕ) → Copying s xs map j → Places s xs map j
+pub copy-places : (s : State) (xs map : List ℕ) (j : ℕ) → Copying s xs map j → Places xs map j
 copy-places s xs map j c =
     let g = s .geometry in
     let f = c .fit in
     let h = geometry-in g (f .shape) in
-    let bs = availableOf (s .zones) in
-    let n = next-is xs (g .pages) bs (c .clean) in
-    let d = next-each (λ (b : ℕ). dataBlock g b ≡ true) xs (g .pages) bs (each-true (dataBlock g) bs (listed g (s .zones) (f .shape) (f .zones) .available)) n in
-    let k = block-page-is g (n .block) (usedIn xs (g .pages) (n .block)) d (n .room) in
     let e = f .entries in
     let l = h .logical-most in
     record {
@@ -106,9 +97,6 @@ copy-places s xs map j c =
       entries = omega arith;
       «from» = data-page-fits g xs (f .bytes) j (c .«data»);
       number = page-small g j h (page-most g j (c .«data»));
-      to = rw (n .page) (data-page-fits g xs (f .bytes) (n .block * g .pages + usedIn xs (g .pages) (n .block)) k);
-      next = rw (n .page) (page-small g (n .block * g .pages + usedIn xs (g .pages) (n .block)) h (page-most g (n .block * g .pages + usedIn xs (g .pages) (n .block)) k));
-      blank = next-blank xs (g .pages) bs (c .clean);
     }
 
 -- ---- the number that refuses copies: the versions are spent, the reserve is short

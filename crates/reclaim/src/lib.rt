@@ -1,7 +1,7 @@
 // Reclaim: the block that it takes, and its strides.
 ghost use mathlib.Core.Path.{_≡_};
 ghost use mathlib.Core.Bool.{true};
-ghost use Prim.Native.Nat.{_-_, _≤_, _<_};
+ghost use Prim.Native.Nat.{_-_, _/_, _≤_, _<_};
 ghost use lib.ListN.{length};
 ghost use lib.Dec.{eqb};
 ghost use Rattle.model.specs.Lists.{find};
@@ -11,7 +11,9 @@ ghost use Rattle.zones.specs.Judging.{Ready};
 ghost use Rattle.model.specs.Answers.{number};
 ghost use Rattle.model.specs.Checkpoint.{nothing, at};
 ghost use Rattle.model.specs.World.{World};
-ghost use Rattle.model.specs.Strides.{mappedIn, pickFrom, lowestFrom, isReclaim, copyStride, freeStride, reclaimStride};
+ghost use Rattle.model.specs.Transactions.{withVersion, withLast};
+ghost use Rattle.model.specs.Strides.{withWork, mappedIn, pickFrom, lowestFrom, isReclaim, copyStride, freeStride, reclaimStride};
+ghost use Rattle.model.specs.declared.Work.the-variants.{Reclaim};
 ghost use Rattle.checkpoint.specs.Found.{foundOf};
 ghost use Rattle.strides.specs.Strode.{Strode, Fit};
 ghost use Rattle.reclaim.specs.Copies.{copiesNumber, Counts, InTable, withListed, Pickable, Copying};
@@ -164,36 +166,35 @@ fn find_page(map: &[u16], j: u16) -> usize
     map.len()
 }
 
+/// The state when a page was copied to page k with version v. The planes are asked for here already: then one plane costs one copy.
+fn with_copied(s: State, v: u32, k: usize) -> State
+    requires { ⌜ 0 < s .geometry .pages ⌝ }
+    ensures { λ r. ⌜ r ≡ withWork (withVersion (withLast s (k / s .geometry .pages)) v) (s .front) (s .first) Reclaim ⌝ }
+{
+    if s.geometry.planes != 2 {
+        let t = places::with_version(s, v);
+        return places::with_work(t, s.front, s.first, Work::Reclaim);
+    }
+    let t = change::with_page(s, v, k);
+    places::with_work(t, s.front, s.first, Work::Reclaim)
+}
+
 /// Copies page j as a lone write.
 fn copy_stride(s: State, array: &mut [u8], map: &mut [u16], j: usize) -> Stride
     requires { ⌜ Copying s (now array) (now map) j ⌝ }
     ensures { λ r. ⌜ Strode (copyStride j) s (now (array .entry)) (now (map .entry)) (number (r .answer)) (now (array .exit)) (now (map .exit)) (r .state) ⌝ }
 {
     let lpn = find_page(map, j as u16);
-    let z = s.zones;
-    let a = z.available;
-    let na = z.na as usize;
-    let k = flash::next_in(array, s.geometry.pages as usize, &a[..na]);
+    let k = change::next_page(s, array);
     let from = j * Spare::PAGE;
     let to = from + Spare::DATA;
     let mut d = [0u8; Spare::DATA];
     let n = bytes::copy(&array[from..to], &mut d);
     let v = s.version + 1;
-    let spare = Spare {
-        lpn: lpn as u16,
-        cnt: 1,
-        id: 0,
-        ver: v,
-        kind: Spare::DATA_KIND,
-        reserved: 0,
-    };
-    flash::program_at(array, k, &d, spare);
-    map[lpn] = k as u16;
-    let t = places::with_version(s, v);
-    let t2 = places::with_work(t, s.front, s.first, Work::Reclaim);
+    change::put_lone(array, map, k, lpn as u16, v, &d);
     Stride {
         answer: Answer::More,
-        state: t2,
+        state: with_copied(s, v, k),
     }
 }
 

@@ -47,7 +47,7 @@ module _ (g : Geometry) (xs map bs entries : List ℕ) (h : Scannable g xs map b
 
   -- all pages of the scan were visited, and met so
   pub scan-met : (order other notes : List ℕ) (m : Seen) → order ≡ listed (g .pages) bs → length other ≡ length bs * g .pages
-      → m ≡ metAll (g .logical) xs order start → notes ≡ notesOf xs order → Surveyed (g .logical) xs (g .pages) bs order notes other m
+      → m ≡ metAll (g .planes) (g .logical) xs order start → notes ≡ notesOf xs order → Surveyed (g .planes) (g .logical) xs (g .pages) bs order notes other m
   scan-met order other notes m l r s n =
       record {
         blocks = blocks-in;
@@ -57,14 +57,14 @@ module _ (g : Geometry) (xs map bs entries : List ℕ) (h : Scannable g xs map b
       }
 
   -- no more pages of changes than pages
-  pub changes-few : (order : List ℕ) (m : Seen) → m ≡ metAll (g .logical) xs order start → m .changes ≤ length order
-  changes-few order m s = omega (arith, ap (λ (x : Seen). x .changes) s, met-few (g .logical) xs order start)
+  pub changes-few : (order : List ℕ) (m : Seen) → m ≡ metAll (g .planes) (g .logical) xs order start → m .changes ≤ length order
+  changes-few order m s = omega (arith, ap (λ (x : Seen). x .changes) s, met-few (g .planes) (g .logical) xs order start)
 
   -- entries that were copied into the map m, over a scan that refusal 4 passes
-  pub redo-ready : (good : Bool) → good ≡ pagesGood (g .logical) (scanIn xs (g .pages) bs) → good ≡ true → (m : List ℕ) → m ≡ take (length map) entries
+  pub redo-ready : (good : Bool) → good ≡ pagesGood (g .planes) (g .logical) (scanIn xs (g .pages) bs) → good ≡ true → (m : List ℕ) → m ≡ take (length map) entries
       → (order other notes changes : List ℕ) → order ≡ listed (g .pages) bs → length other ≡ length bs * g .pages → notes ≡ notesOf xs order
-      → changes ≡ changesOf xs (listed (g .pages) bs)
-      → Ready m xs (g .pages) bs changes notes other
+      → changes ≡ changesOf (g .planes) xs (listed (g .pages) bs)
+      → Ready (g .planes) m xs (g .pages) bs changes notes other
   redo-ready good eg ok m e order other notes changes l r n c =
       let i = geometry-in g (h .shape) in
       let k : length m ≡ g .logical = ap length e ∙ length-take-le (length map) entries (omega (arith, h .mapped, h .enough)) ∙ h .mapped in
@@ -78,40 +78,40 @@ module _ (g : Geometry) (xs map bs entries : List ℕ) (h : Scannable g xs map b
       }
 
   -- the highest version that was met
-  pub top-met : (good : Bool) → good ≡ pagesGood (g .logical) (scanIn xs (g .pages) bs) → good ≡ true → (order : List ℕ) → order ≡ listed (g .pages) bs
-      → (m : Seen) → m ≡ metAll (g .logical) xs order start → m .top ≡ top (scanIn xs (g .pages) bs)
+  pub top-met : (good : Bool) → good ≡ pagesGood (g .planes) (g .logical) (scanIn xs (g .pages) bs) → good ≡ true → (order : List ℕ) → order ≡ listed (g .pages) bs
+      → (m : Seen) → m ≡ metAll (g .planes) (g .logical) xs order start → m .top ≡ top (scanIn xs (g .pages) bs)
   top-met good eg ok order l m s =
-      ap (λ (x : Seen). x .top) (s ∙ ap (λ (ks : List ℕ). metAll (g .logical) xs ks start) l) ∙ good-top (g .logical) xs (g .pages) bs (sym eg ∙ ok)
+      ap (λ (x : Seen). x .top) (s ∙ ap (λ (ks : List ℕ). metAll (g .planes) (g .logical) xs ks start) l) ∙ good-top (g .planes) (g .logical) xs (g .pages) bs (sym eg ∙ ok)
 
 -- what is made of a scan that refusal 4 does not pass, and of one that it passes
-module _ (logical : ℕ) (es : List Entry) (floor : ℕ) (entries map : List ℕ) where
-  pub scan-refused : (good : Bool) → good ≡ pagesGood logical es → good ≡ false → scannedOf logical es floor (take logical entries) map ≡ record { good = false; top = 0; map = map }
+module _ (planes logical : ℕ) (es : List Entry) (floor : ℕ) (entries map : List ℕ) where
+  pub scan-refused : (good : Bool) → good ≡ pagesGood planes logical es → good ≡ false → scannedOf planes logical es floor (take logical entries) map ≡ record { good = false; top = 0; map = map }
   unfolding scannedOf
   scan-refused good eg e = rw (← eg, e)
 
   -- m is the map with the entries copied into it, n with what is applied entered too
-  pub scan-passed : (good : Bool) → good ≡ pagesGood logical es → good ≡ true → (t : ℕ) → t ≡ top es
-      → length map ≡ logical → (m : List ℕ) → m ≡ take (length map) entries → (n : List ℕ) → n ≡ redone floor es m
-      → scannedOf logical es floor (take logical entries) map ≡ record { good = true; top = t; map = n }
+  pub scan-passed : (good : Bool) → good ≡ pagesGood planes logical es → good ≡ true → (t : ℕ) → t ≡ top es
+      → length map ≡ logical → (m : List ℕ) → m ≡ take (length map) entries → (n : List ℕ) → n ≡ redone planes floor es m
+      → scannedOf planes logical es floor (take logical entries) map ≡ record { good = true; top = t; map = n }
   unfolding scannedOf
   scan-passed good eg e t et h m em n en = rw (← eg, e, et, en, em, h)
 
 -- and back
-module _ (logical : ℕ) (es : List Entry) (floor : ℕ) (entries map : List ℕ) (good : Bool) (t : ℕ) (m : List ℕ)
-    (h : scannedOf logical es floor entries map ≡ record { good = good; top = t; map = m }) where
-  pub refused-back : good ≡ false → (pagesGood logical es ≡ false) × (m ≡ map)
+module _ (planes logical : ℕ) (es : List Entry) (floor : ℕ) (entries map : List ℕ) (good : Bool) (t : ℕ) (m : List ℕ)
+    (h : scannedOf planes logical es floor entries map ≡ record { good = good; top = t; map = m }) where
+  pub refused-back : good ≡ false → (pagesGood planes logical es ≡ false) × (m ≡ map)
   unfolding scannedOf
-  refused-back e = go (decide (pagesGood logical es))
+  refused-back e = go (decide (pagesGood planes logical es))
     where
-      go : (pagesGood logical es ≡ true) ⊎ (pagesGood logical es ≡ false) → (pagesGood logical es ≡ false) × (m ≡ map)
+      go : (pagesGood planes logical es ≡ true) ⊎ (pagesGood planes logical es ≡ false) → (pagesGood planes logical es ≡ false) × (m ≡ map)
       go (inl p) = let q = rw p at h in clash (ap (λ (r : Scan). r .good) (sym q)) e
       go (inr p) = let q = rw p at h in (p, ap (λ (r : Scan). r .map) (sym q))
 
-  pub passed-back : good ≡ true → (pagesGood logical es ≡ true) × ((t ≡ top es) × (m ≡ redone floor es entries))
+  pub passed-back : good ≡ true → (pagesGood planes logical es ≡ true) × ((t ≡ top es) × (m ≡ redone planes floor es entries))
   unfolding scannedOf
-  passed-back e = go (decide (pagesGood logical es))
+  passed-back e = go (decide (pagesGood planes logical es))
     where
-      go : (pagesGood logical es ≡ true) ⊎ (pagesGood logical es ≡ false) → (pagesGood logical es ≡ true) × ((t ≡ top es) × (m ≡ redone floor es entries))
+      go : (pagesGood planes logical es ≡ true) ⊎ (pagesGood planes logical es ≡ false) → (pagesGood planes logical es ≡ true) × ((t ≡ top es) × (m ≡ redone planes floor es entries))
       go (inl p) = let q = rw p at h in (p, (ap (λ (r : Scan). r .top) (sym q), ap (λ (r : Scan). r .map) (sym q)))
       go (inr p) = let q = rw p at h in clash e (ap (λ (r : Scan). r .good) (sym q))
 
@@ -124,7 +124,7 @@ module _ (g : Geometry) (s : State) (xs map : List ℕ) (k : ℕ) where
 
   module _ (z entries : List ℕ) (d : Loaded g xs k z entries) (zones : Zones) (ez : zones ≡ zonesIn z) (floor : ℕ) (ef : floor ≡ le32 z 0)
       (bs : List ℕ) (eb : bs ≡ unavailableOf zones ++ availableOf zones) (good : Bool) (t : ℕ) (m : List ℕ)
-      (h : scannedOf (g .logical) (scanIn xs (g .pages) bs) floor (take (g .logical) entries) map ≡ record { good = good; top = t; map = m }) where
+      (h : scannedOf (g .planes) (g .logical) (scanIn xs (g .pages) bs) floor (take (g .logical) entries) map ≡ record { good = good; top = t; map = m }) where
     zones-is : zones ≡ zonesIn (zonesAt g xs k)
     zones-is = ez ∙ ap zonesIn (d .zones)
 
@@ -139,8 +139,8 @@ module _ (g : Geometry) (s : State) (xs map : List ℕ) (k : ℕ) where
     pub bad-page : good ≡ false → Strode (λ (w : World). recoverFrom g w (at k)) s xs map 4 xs m s
     unfolding carried recoverFrom applyOp
     bad-page e =
-        let q = refused-back (g .logical) (scanIn xs (g .pages) bs) floor (take (g .logical) entries) map good t m h e in
-        let bad : pagesGood (g .logical) (scannedAt g xs k) ≡ false = ap (pagesGood (g .logical)) (sym scan-is) ∙ q .0 in
+        let q = refused-back (g .planes) (g .logical) (scanIn xs (g .pages) bs) floor (take (g .logical) entries) map good t m h e in
+        let bad : pagesGood (g .planes) (g .logical) (scannedAt g xs k) ≡ false = ap (pagesGood (g .planes) (g .logical)) (sym scan-is) ∙ q .0 in
         λ hold. rw (d .ok, bad, q .1)
 
     -- done
@@ -148,10 +148,10 @@ module _ (g : Geometry) (s : State) (xs map : List ℕ) (k : ℕ) where
         → Strode (λ (w : World). recoverFrom g w (at k)) s xs map 0 xs m r
     unfolding carried recoverFrom applyOp recoverPlan recoveredMap recoveredState recoveredOf
     recovers e version number ev en r er =
-        let q = passed-back (g .logical) (scanIn xs (g .pages) bs) floor (take (g .logical) entries) map good t m h e in
-        let ok : pagesGood (g .logical) (scannedAt g xs k) ≡ true = ap (pagesGood (g .logical)) (sym scan-is) ∙ q .0 in
+        let q = passed-back (g .planes) (g .logical) (scanIn xs (g .pages) bs) floor (take (g .logical) entries) map good t m h e in
+        let ok : pagesGood (g .planes) (g .logical) (scannedAt g xs k) ≡ true = ap (pagesGood (g .planes) (g .logical)) (sym scan-is) ∙ q .0 in
         let v : version ≡ max (floorAt g xs k) (top (scannedAt g xs k)) = ev ∙ rw (q .1 .0, floor-is, scan-is) in
-        let n : m ≡ redone (floorAt g xs k) (scannedAt g xs k) (take (g .logical) (entriesAt g xs k)) = q .1 .1 ∙ rw (floor-is, scan-is, d .used) in
+        let n : m ≡ redone (g .planes) (floorAt g xs k) (scannedAt g xs k) (take (g .logical) (entriesAt g xs k)) = q .1 .1 ∙ rw (floor-is, scan-is, d .used) in
         λ hold. rw (d .ok, ok, er, v, n, en, zones-is)
 
 -- ---- refusal 3 by its halves: t of the map entries, u of the zone page's data

@@ -14,6 +14,7 @@ use Rattle.model.specs.declared.Geometry.{Geometry}
 use Rattle.model.specs.declared.State.{State}
 use Rattle.model.specs.declared.Zones.{Zones}
 use Rattle.model.specs.declared.Work.the-variants.{Idle}
+use Rattle.model.specs.declared.Plane.the-variants.{Neither}
 use Rattle.flash.specs.Ranges.{Within}
 
 -- whether refusal 4 passes, the highest version, and the map
@@ -22,10 +23,10 @@ pub record Scan : Type 0 where
   pub top : ℕ
   pub map : List ℕ
 
-unfoldable pub scannedOf : ℕ → List Entry → ℕ → List ℕ → List ℕ → Scan
-scannedOf logical es floor entries map =
-    cond (pagesGood logical es)
-    (record { good = true; top = top es; map = redone floor es entries })
+unfoldable pub scannedOf : ℕ → ℕ → List Entry → ℕ → List ℕ → List ℕ → Scan
+scannedOf planes logical es floor entries map =
+    cond (pagesGood planes logical es)
+    (record { good = true; top = top es; map = redone planes floor es entries })
     (record { good = false; top = 0; map = map })
 
 -- the state of a recovery from the checkpoint on page k on
@@ -39,6 +40,7 @@ recoveredOf g z version number k =
       front = k / g .pages;
       first = 0;
       work = Idle;
+      last = Neither;
       places = replicate 8 freePlace;
     }
 

@@ -15,6 +15,7 @@ use model::Answer;
 use model::Geometry;
 use model::Map;
 use model::Place;
+use model::Plane;
 use model::Refusal;
 use model::Spare;
 use model::State;
@@ -47,12 +48,22 @@ fn scan_pages(
     notes: &mut [u8],
 ) -> Scanned
     requires { ⌜ Scannable g (now array) (now map) (now bs) (now entries) × Lent (g .pages) (now bs) (now order) (now other) (now notes) ⌝ }
-    ensures { λ r. ⌜ scannedOf (g .logical) (scanIn (now (array .entry)) (g .pages) (now (bs .entry))) floor (take (g .logical) (now (entries .entry))) (now (map .entry)) ≡ record { good = r .good; top = r .top; map = now (map .exit) } ⌝ }
+    ensures { λ r. ⌜ scannedOf (g .planes) (g .logical) (scanIn (now (array .entry)) (g .pages) (now (bs .entry))) floor (take (g .logical) (now (entries .entry))) (now (map .entry)) ≡ record { good = r .good; top = r .top; map = now (map .exit) } ⌝ }
 {
     let pages = g.pages as usize;
     scan::list(bs, pages, order);
-    let seen = scan::visit(array, order, notes, g.logical);
-    if !scan::pages_good(array, bs, pages, order, other, notes, seen, g.logical) {
+    let seen = scan::visit(array, order, notes, g.logical, g.planes);
+    if !scan::pages_good(
+        array,
+        bs,
+        pages,
+        order,
+        other,
+        notes,
+        seen,
+        g.logical,
+        g.planes,
+    ) {
         return Scanned {
             good: false,
             top: 0,
@@ -66,6 +77,7 @@ fn scan_pages(
         array,
         bs,
         pages,
+        g.planes,
         &order[..n],
         notes,
         other,
@@ -88,7 +100,7 @@ fn scan_blocks(
     entries: &[u16],
 ) -> Scanned
     requires { ⌜ Scannable g (now array) (now map) (now bs) (now entries) ⌝ }
-    ensures { λ r. ⌜ scannedOf (g .logical) (scanIn (now (array .entry)) (g .pages) (now (bs .entry))) floor (take (g .logical) (now (entries .entry))) (now (map .entry)) ≡ record { good = r .good; top = r .top; map = now (map .exit) } ⌝ }
+    ensures { λ r. ⌜ scannedOf (g .planes) (g .logical) (scanIn (now (array .entry)) (g .pages) (now (bs .entry))) floor (take (g .logical) (now (entries .entry))) (now (map .entry)) ≡ record { good = r .good; top = r .top; map = now (map .exit) } ⌝ }
 {
     let n = scan::size(bs, g.pages as usize);
     if n <= FEW {
@@ -137,6 +149,7 @@ fn recovered(g: Geometry, zones: Zones, version: u32, checkpoint: u32, k: usize)
         front: (k / (g.pages as usize)) as u8,
         first: 0,
         work: Work::Idle,
+        last: Plane::Neither,
         places: ps,
     }
 }

@@ -46,11 +46,11 @@ pub record Runs (xs ks : List ℕ) : Type 0 where
   pub sorted : Sorted (keyAt xs 516) ks
   pub change : Each (λ (k : ℕ). keyAt xs 516 k ≢ 0) ks
 
--- a map and a scan that refusal 4 passes, with its notes, its pages of changes sorted by identifier, and room for its pages
-pub record Ready (map xs : List ℕ) (p : ℕ) (bs changes notes other : List ℕ) : Type 0 where
+-- a map and a scan that refusal 4 passes, with its notes, its pages of changes sorted by identifier, those of one in turn, and room for its pages
+pub record Ready (planes : ℕ) (map xs : List ℕ) (p : ℕ) (bs changes notes other : List ℕ) : Type 0 where
   pub blocks : Blocks xs p bs
-  pub good : pagesGood (length map) (scanIn xs p bs) ≡ true
+  pub good : pagesGood planes (length map) (scanIn xs p bs) ≡ true
   pub few : length map ≤ 1024
-  pub change : changes ≡ changesOf xs (listed p bs)
+  pub change : changes ≡ changesOf planes xs (listed p bs)
   pub note : notes ≡ notesOf xs (listed p bs)
   pub room : length other ≡ length bs * p

@@ -1,6 +1,6 @@
 // What a recovery applies: the committed transactions above the floor, by rising version. They are entered in any order: for each logical page
 // the best version so far is kept, and a page enters where its own is not below it. So the pages of changes are taken as they stand sorted by
-// TxID, one run of an identifier after the other, and then the lone pages. It takes the same steps for any versions.
+// TxID, one run of an identifier after the other, each in turn, and then the lone pages. It takes the same steps for any versions.
 ghost use mathlib.Core.Path.{_≡_};
 ghost use Prim.Native.Nat.{_+_, _*_, _≤_, _<_, max};
 ghost use lib.ListN.{length, drop, getD};
@@ -122,11 +122,12 @@ fn enter_all(
     array: &[u8],
     bs: &[u8],
     pages: usize,
+    planes: u16,
     changes: &[u16],
     notes: &[u8],
     other: &mut [u16],
 )
-    requires { ⌜ Ready (now map) (now array) pages (now bs) (now changes) (now notes) (now other) × (length (now bests) ≡ length (now map)) ⌝ }
+    requires { ⌜ Ready planes (now map) (now array) pages (now bs) (now changes) (now notes) (now other) × (length (now bests) ≡ length (now map)) ⌝ }
     ensures { λ _. ⌜ best (now (map .exit)) (now (bests .exit)) ≡ allEntered (now (array .entry)) (now (changes .entry)) (noted (now (array .entry)) 3 3 (listed pages (now (bs .entry)))) (best (now (map .entry)) (now (bests .entry))) ⌝ }
 {
     enter_runs(map, bests, array, changes);
@@ -136,20 +137,21 @@ fn enter_all(
 }
 
 /// Enters the committed transactions above the floor by rising version; the highest version of the scan is given, and its pages of changes
-/// sorted by TxID. `other` is room for the scan's pages.
+/// sorted by TxID, those of one in turn. `other` is room for the scan's pages.
 pub fn redo(
     map: &mut [u16],
     array: &[u8],
     bs: &[u8],
     pages: usize,
+    planes: u16,
     changes: &[u16],
     notes: &[u8],
     other: &mut [u16],
     floor: u32,
     highest: u32,
 )
-    requires { ⌜ Ready (now map) (now array) pages (now bs) (now changes) (now notes) (now other) × (highest ≡ top (scanIn (now array) pages (now bs))) ⌝ }
-    ensures { λ _. ⌜ now (map .exit) ≡ redone floor (scanIn (now (array .entry)) pages (now (bs .entry))) (now (map .entry)) ⌝ }
+    requires { ⌜ Ready planes (now map) (now array) pages (now bs) (now changes) (now notes) (now other) × (highest ≡ top (scanIn (now array) pages (now bs))) ⌝ }
+    ensures { λ _. ⌜ now (map .exit) ≡ redone planes floor (scanIn (now (array .entry)) pages (now (bs .entry))) (now (map .entry)) ⌝ }
 {
     if highest <= floor {
         return;
@@ -162,6 +164,7 @@ pub fn redo(
         array,
         bs,
         pages,
+        planes,
         changes,
         notes,
         other,

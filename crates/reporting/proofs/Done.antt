@@ -40,7 +40,7 @@ module _ (g : Geometry) (w : World) where
   made-from : lentOk g w ≡ true → (f : Found) → newest (w .array) (mapPages g) (g .pages) ≡ f → Made (recoverFrom g w f)
   unfolding recoverFrom recoverPlan lentOk
   made-from l nothing e = λ z. absurd (omega arith)
-  made-from l (at k) e = go (loadOk g (entriesAt g (w .array) k) (zonesAt g (w .array) k)) (pagesGood (g .logical) (scannedAt g (w .array) k)) refl
+  made-from l (at k) e = go (loadOk g (entriesAt g (w .array) k) (zonesAt g (w .array) k)) (pagesGood (g .planes) (g .logical) (scannedAt g (w .array) k)) refl
     where
       go : (b c : Bool) → loadOk g (entriesAt g (w .array) k) (zonesAt g (w .array) k) ≡ b
           → Made (cond (not b) (refuse w 3) (cond (not c) (refuse w 4) (recoverPlan g k w)))

@@ -105,7 +105,7 @@ module _ (input : List ℕ) where
       unfolding reportOf
       third-lost h = rw (e, f, h)
 
-      pub all-found : (l : ℕ) (xs : List ℕ) → lineOf logicalName third ≡ says l xs → arrayReport (record { blocks = b; pages = p; logical = l }) xs ≡ reportOf input
+      pub all-found : (l : ℕ) (xs : List ℕ) → lineOf logicalName third ≡ says l xs → arrayReport (record { blocks = b; pages = p; logical = l; planes = 1 }) xs ≡ reportOf input
       unfolding reportOf
       all-found l xs h = rw (e, f, h)
 

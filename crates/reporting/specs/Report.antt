@@ -49,7 +49,7 @@ reportOf input =
     following (lineOf blocksName input) (λ (b : ℕ) (second : List ℕ).
     following (lineOf pagesName second) (λ (p : ℕ) (third : List ℕ).
     following (lineOf logicalName third) (λ (l : ℕ) (xs : List ℕ).
-    arrayReport (record { blocks = b; pages = p; logical = l }) xs)))
+    arrayReport (record { blocks = b; pages = p; logical = l; planes = 1 }) xs)))
 
 -- ---- what the count may rely on
 -- the blocks in scan order lie in the array, and the counts of the lists fit

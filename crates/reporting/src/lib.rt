@@ -82,6 +82,7 @@ pub fn report(input: &[u8], out: &mut [u8; 8192]) -> usize
         blocks,
         pages,
         logical,
+        planes: 1,
     };
     array_report(out, array, g)
 }

@@ -1,3 +1,4 @@
 pub mod Paged
 pub mod Devices
 pub mod Runs
+pub mod Planes

@@ -11,10 +11,11 @@ use lib.Dec.{ltb, eqb}
 use Rattle.model.specs.Lists.{any, keep, those, part, splice}
 use Rattle.model.specs.Bytes.{allFF}
 use Rattle.model.specs.Page.{classOf, isWhole, spareOf, pageAt, putPage, blankAt, wholeAt, usedFrom}
-use Rattle.model.specs.Zones.{Entry, entryOf, entryAt, usedIn, cleanIn, nextIn, wholeFrom, scanIn, isFull, wanted, staying, leaving, holdsWanted, judged, availableOf, unavailableOf, freeOf, refill, zonesTaken, slide}
+use Rattle.model.specs.Zones.{Entry, entryOf, entryAt, usedIn, cleanIn, nextIn, otherPlane, takenFrom, wholeFrom, scanIn, isFull, wanted, staying, leaving, holdsWanted, judged, availableOf, unavailableOf, freeOf, refill, zonesTaken, slide}
 use Rattle.model.specs.Checkpoint.{Found, nothing, at, mapSpare, zoneSpare, sameSpare, pageIs, mapsAt, numberAt, completeAt, newer, newestFrom, newest}
 use Rattle.model.specs.declared.Geometry.{Geometry}
 use Rattle.model.specs.declared.Place.{Place}
+use Rattle.model.specs.declared.Plane.{Plane}
 use Rattle.model.specs.declared.Spare.{Spare}
 use Rattle.model.specs.declared.Zones.{Zones}
 
@@ -123,6 +124,9 @@ unfoldable pub nextOn : List (List ℕ) → ℕ → List ℕ → ℕ
 nextOn qs p [] = 0
 nextOn qs p (b ∷ bs) = cond (ltb (usedOn qs (b * p) p) p) (b * p + usedOn qs (b * p) p) (nextOn qs p bs)
 
+unfoldable pub takenOn : Geometry → Plane → List (List ℕ) → List ℕ → List ℕ
+takenOn g last qs bs = cond (eqb (g .planes) 2 && ltb 0 (cleanOn qs (g .pages) (those (otherPlane last) bs))) (those (otherPlane last) bs) bs
+
 unfoldable pub entryOn : List ℕ → ℕ → List Entry
 entryOn q k = keep (isWhole (classOf q)) (entryOf k (spareOf q) ∷ [])
 
@@ -177,6 +181,11 @@ module _ (xs : List ℕ) (qs : List (List ℕ)) (h : (k : ℕ) → pageAt xs k �
   unfolding cleanIn cleanOn usedIn
   clean-on p [] = refl
   clean-on p (b ∷ bs) = ap₂ (λ (u c : ℕ). (p - u) + c) (used-on (b * p) p) (clean-on p bs)
+
+  pub taken-on : (g : Geometry) (last : Plane) (bs : List ℕ) → takenFrom g last xs bs ≡ takenOn g last qs bs
+  unfolding takenFrom takenOn
+  taken-on g last bs =
+      ap (λ (n : ℕ). cond (eqb (g .planes) 2 && ltb 0 n) (those (otherPlane last) bs) bs) (clean-on (g .pages) (those (otherPlane last) bs))
 
   pub next-on : (p : ℕ) (bs : List ℕ) → nextIn xs p bs ≡ nextOn qs p bs
   unfolding nextIn nextOn usedIn

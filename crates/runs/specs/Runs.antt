@@ -11,7 +11,7 @@ use Rattle.model.specs.Bytes.{bytes, ands, minus, zerosOf}
 use Rattle.model.specs.Page.{classOf, pageAt}
 use Rattle.model.specs.Geometry.{geometryOk, blankMap}
 use Rattle.model.specs.Zones.{zonesOf, onPages, hasId, active}
-use Rattle.model.specs.Checkpoint.{nothing, at, mapPage, zonePage, zoneData}
+use Rattle.model.specs.Checkpoint.{mapPage, zonePage, zoneData}
 use Rattle.model.specs.World.{Plan, refuse}
 use Rattle.model.specs.Frame.{freePlace, freshState, badId}
 use Rattle.model.specs.Transactions.{readPart, dataBytes, changeBytes, gone, withPlace, begun}
@@ -20,18 +20,19 @@ use Rattle.model.specs.Strides.{withWork, stridesDone, formatWorkOk}
 use Rattle.model.specs.Commands.{format, recover, begin, write, dropPage, lone, commit, abort, read, checkpoint, reclaim, plan, exec}
 use Rattle.model.specs.Book.{Event, called, cutIn, cutBetween, never, holds, Book, blank as noBook, story}
 use Rattle.model.specs.Answers.{refused}
-use Rattle.model.specs.Sequence.{live, between, lost as lost-in, again, cutEvent, cutArray, Run, stop, next, Formatting, Formatted, fits}
+use Rattle.model.specs.Sequence.{cutRuns, live, between, lost as lost-in, again, cutEvent, cutArray, Run, stop, next, Formatting, Formatted, fits}
 use Rattle.model.specs.declared.Geometry.{Geometry}
 use Rattle.model.specs.declared.Place.{Place}
 use Rattle.model.specs.declared.State.{State}
 use Rattle.model.specs.declared.Zones.{Zones}
 use Rattle.model.specs.declared.Class.the-variants.{Torn}
+use Rattle.model.specs.declared.Plane.the-variants.{Neither}
 use Rattle.model.specs.declared.Work.the-variants.{Idle, Format, Checkpoint, Reclaim}
 use Rattle.examples.specs.Unfolded.{go, told}
 use Rattle.examples.specs.Rules.{small}
 use Rattle.examples.specs.Orders.{begin-6 as begin-6-law, begin-7 as begin-7-law, begin-9 as begin-9-law, begin-17, write-5, write-8, write-11, read-14, read-0, reclaim-strides, reclaim-none, recover-1, format-1}
-use Rattle.runs.specs.Paged.{flat, Sized, page-flat, sized-take, sized-append, sized-replicate, usedOn, cleanOn, nextOn, entryOn, wholeOn, scanOn, isOn, mapsOn, completeOn, newerOn, newestOn, fullOn, slideOn}
-use Rattle.runs.specs.Devices.{Device, world, device, lentOn, frameOn, workOn, format-erases, format-maps, format-ends, format-ready, format-first, format-more, format-finished, refused-stays, passes, busy, reads-part, lent-on, live-on, begins, begin-op, lone-op, lone-writes, first-write, next-write, first-drop, next-drop, commit-op, commits, aborts, checkpoint-begins, checkpoint-ends, reclaim-copies, reclaim-erases, reclaim-op, reclaim-shape, loadOn, recovers, idle-told, idle-left, page-told, page-left, block-told, block-left, answered, cut-short, recovered, turned-down, joined}
+use Rattle.runs.specs.Paged.{flat, Sized, page-flat, sized-take, sized-append, sized-replicate, usedOn, cleanOn, nextOn, takenOn, entryOn, wholeOn, scanOn, isOn, mapsOn, completeOn, newerOn, newestOn, fullOn, slideOn}
+use Rattle.runs.specs.Devices.{Device, world, device, still, lentOn, frameOn, workOn, format-erases, format-maps, format-ends, format-ready, format-first, format-more, format-finished, refused-stays, passes, busy, reads-part, lent-on, live-on, begins, begin-op, lone-op, lone-writes, first-write, next-write, first-drop, next-drop, commit-op, commits, aborts, checkpoint-begins, checkpoint-ends, reclaim-copies, reclaim-erases, reclaim-op, reclaim-shape, loadOn, recovers, idle-told, idle-left, page-told, page-left, block-told, block-left, answered, cut-short, recovered, turned-down, joined}
 
 -- ---- pages
 abbrev pub blank : List ℕ
@@ -47,7 +48,7 @@ pages f x y = block f ++ (block [] ++ (block x ++ (block y ++ replicate 32 blank
 
 -- what is read of a device, opened so that it computes
 unfoldable pub paged : Device → Bool
-unfolding go lentOn frameOn workOn usedOn cleanOn nextOn entryOn wholeOn scanOn pages block slideOn fullOn isOn mapsOn completeOn newerOn newestOn loadOn
+unfolding go lentOn frameOn workOn usedOn cleanOn nextOn takenOn entryOn wholeOn scanOn pages block slideOn fullOn isOn mapsOn completeOn newerOn newestOn loadOn
 paged x = frameOn x
 
 pub sized-block : (qs : List (List ℕ)) → Sized qs → Sized (block qs)
@@ -75,7 +76,7 @@ hold d = d ++ replicate 3584 0
 
 -- a state that a cut may leave
 abbrev pub lost : State
-lost = freshState (record { blocks = 0; pages = 0; logical = 0 })
+lost = freshState (record { blocks = 0; pages = 0; logical = 0; planes = 1 })
 
 -- ---- the pages that are programmed: of the front
 abbrev pub zones1 : Zones
@@ -148,10 +149,10 @@ unfoldable pub p26 : List ℕ
 p26 = dataBytes ones 4 0 21 0
 
 unfoldable pub p27 : List ℕ
-p27 = set (changeBytes gone true 3 2 21 7) 512 7
+p27 = set (changeBytes gone true 3 2 21 7 0) 512 7
 
 unfoldable pub p28 : List ℕ
-p28 = changeBytes gone true 3 1 22 7
+p28 = changeBytes gone true 3 1 22 7 0
 
 -- page 16 with its first byte erased
 unfoldable pub e16 : List ℕ
@@ -185,7 +186,7 @@ size-e16 = refl
 -- ---- devices
 -- nothing under way: zones, last version, checkpoint number, places
 abbrev pub idle : Zones → ℕ → ℕ → List Place → State
-idle z v n ps = record { geometry = small; zones = z; version = v; checkpoint = n; front = 0; first = 0; work = Idle; places = ps }
+idle z v n ps = record { geometry = small; zones = z; version = v; checkpoint = n; front = 0; first = 0; work = Idle; last = Neither; places = ps }
 
 abbrev pub free8 : List Place
 free8 = replicate 8 freePlace
@@ -411,16 +412,16 @@ mark5 = dataBytes ones 4 2 5 1
 abbrev pub butOne : List ℕ
 butOne = 253 ∷ []
 
-commit-5-told : cutEvent (commit 5) (world w3) butOne ≡ cutIn (commit 5) true (minus blank mark5) (ands (minus blank mark5) butOne)
+commit-5-told : cutEvent (commit 5) (world w3) [] butOne still ≡ cutIn (commit 5) true (minus blank mark5) (ands (minus blank mark5) butOne)
 unfolding paged mark5 p16
 commit-5-told = page-told w3 (commit 5) butOne 17 mark5 blank (commit-op w3 refl refl refl 5 refl 17 refl refl refl refl) refl
 
-commit-5-left : cutArray (commit 5) (world w3) butOne ≡ flat (w4 .pages)
+commit-5-left : cutArray (commit 5) (world w3) [] butOne still ≡ flat (w4 .pages)
 unfolding paged mark5 p16 p17
 commit-5-left = page-left w3 (commit 5) butOne 17 mark5 blank (commit-op w3 refl refl refl 5 refl 17 refl refl refl refl) refl p17 refl
 
 -- so the mark is torn by 1, the least that `OwnTorn` of `model` leaves for a torn page of a sequence
-commit-5-torn : classOf (pageAt (cutArray (commit 5) (world w3) butOne) 17) ≡ Torn (pos 1)
+commit-5-torn : classOf (pageAt (cutArray (commit 5) (world w3) [] butOne still) 17) ≡ Torn (pos 1)
 unfolding paged mark5 p16 p17
 commit-5-torn = ap (λ (xs : List ℕ). classOf (pageAt xs 17)) commit-5-left ∙ ap classOf (page-flat (w4 .pages) (w4 .sized) 17)
 
@@ -443,18 +444,18 @@ events1 =
     ∷ called (recover small) 0
     ∷ []
 
-pub run1 : Run small (live (world w0)) events1 (live (world w4))
+pub run1 : Run small (live (world w0) []) events1 (live (world w4) [])
 unfolding go fits bytes refused
 run1 =
-    answered (read 3) 14 read-3-never refl tt
-    (answered (begin 0) 6 begin-0 refl tt
-    (answered (begin 5) 0 begin-5 refl tt
-    (answered (begin 5) 7 begin-5-again refl tt
-    (answered (write 5 3 zeros) 0 write-5-3 refl tt
-    (answered (write 9 3 zeros) 8 write-9-3 refl tt
-    (answered (write 5 16 zeros) 5 write-5-16 refl tt
-    (answered (write 5 3 []) 11 write-5-short refl tt
-    (answered (write 5 4 ones) 0 write-5-4 refl tt
+    answered (read 3) 14 read-3-never refl tt refl
+    (answered (begin 0) 6 begin-0 refl tt refl
+    (answered (begin 5) 0 begin-5 refl tt refl
+    (answered (begin 5) 7 begin-5-again refl tt refl
+    (answered (write 5 3 zeros) 0 write-5-3 refl tt refl
+    (answered (write 9 3 zeros) 8 write-9-3 refl tt refl
+    (answered (write 5 16 zeros) 5 write-5-16 refl tt refl
+    (answered (write 5 3 []) 11 write-5-short refl tt refl
+    (answered (write 5 4 ones) 0 write-5-4 refl tt refl
     (cut-short (commit 5) butOne commit-5-told commit-5-left refl tt
     (recovered (world (handed w4)) recover-4
     (stop _)))))))))))
@@ -480,11 +481,11 @@ write-6-4 : exec (write 6 4 ones) (world w6) ≡ record { answer = 0; world = wo
 unfolding paged p16 p17 p18
 write-6-4 = next-write w6 refl refl refl 6 refl 4 ones refl refl 18 refl p18 refl refl refl refl
 
-commit-6-told : cutEvent (commit 6) (world w7) [] ≡ cutIn (commit 6) true (minus blank p19) (minus blank p19)
+commit-6-told : cutEvent (commit 6) (world w7) [] [] still ≡ cutIn (commit 6) true (minus blank p19) (minus blank p19)
 unfolding paged p16 p17 p18 p19
 commit-6-told = page-told w7 (commit 6) [] 19 p19 blank (commit-op w7 refl refl refl 6 refl 19 refl refl refl refl) refl
 
-commit-6-left : cutArray (commit 6) (world w7) [] ≡ flat (w8 .pages)
+commit-6-left : cutArray (commit 6) (world w7) [] [] still ≡ flat (w8 .pages)
 unfolding paged p16 p17 p18 p19
 commit-6-left = page-left w7 (commit 6) [] 19 p19 blank (commit-op w7 refl refl refl 6 refl 19 refl refl refl refl) refl p19 refl
 
@@ -512,14 +513,14 @@ events2 =
     ∷ called (recover small) 0
     ∷ []
 
-pub run2 : Run small (live (world w4)) events2 (live (world w8))
+pub run2 : Run small (live (world w4) []) events2 (live (world w8) [])
 unfolding go fits bytes refused
 run2 =
-    answered (read 3) 14 read-3-still refl tt
-    (answered (begin 5) 7 begin-5-on-page refl tt
-    (answered (begin 6) 0 begin-6 refl tt
-    (answered (write 6 3 zeros) 0 write-6-3 refl tt
-    (answered (write 6 4 ones) 0 write-6-4 refl tt
+    answered (read 3) 14 read-3-still refl tt refl
+    (answered (begin 5) 7 begin-5-on-page refl tt refl
+    (answered (begin 6) 0 begin-6 refl tt refl
+    (answered (write 6 3 zeros) 0 write-6-3 refl tt refl
+    (answered (write 6 4 ones) 0 write-6-4 refl tt refl
     (cut-short (commit 6) [] commit-6-told commit-6-left refl tt
     (recovered (world (handed w8)) recover-8
     (stop _)))))))
@@ -569,17 +570,17 @@ events3 =
     ∷ called (lone 3 zeros) 0
     ∷ []
 
-pub run3 : Run small (live (world w8)) events3 (live (world w14))
+pub run3 : Run small (live (world w8) []) events3 (live (world w14) [])
 unfolding go fits bytes refused
 run3 =
-    answered (read 3) 0 read-3 refl tt
-    (answered (begin 7) 0 begin-7 refl tt
-    (answered (write 7 3 ones) 0 write-7-3 refl tt
-    (answered (write 7 4 zeros) 0 write-7-4 refl tt
-    (answered (commit 7) 0 commit-7 refl tt
-    (answered (begin 8) 0 begin-8 refl tt
-    (answered (abort 8) 0 abort-8 refl tt
-    (answered (lone 3 zeros) 0 lone-3 refl tt
+    answered (read 3) 0 read-3 refl tt refl
+    (answered (begin 7) 0 begin-7 refl tt refl
+    (answered (write 7 3 ones) 0 write-7-3 refl tt refl
+    (answered (write 7 4 zeros) 0 write-7-4 refl tt refl
+    (answered (commit 7) 0 commit-7 refl tt refl
+    (answered (begin 8) 0 begin-8 refl tt refl
+    (answered (abort 8) 0 abort-8 refl tt refl
+    (answered (lone 3 zeros) 0 lone-3 refl tt refl
     (stop _))))))))
 
 -- ---- 4: a lone write cut before its first bit, a begin cut, a cut between two calls; after a cut a recover of short buffers, a recover that is cut,
@@ -591,21 +592,21 @@ abbrev pub bare : Device
 bare = record { pages = w14 .pages; sized = w14 .sized; map = []; hold = []; state = lost }
 
 abbrev pub seven : Geometry
-seven = record { blocks = 7; pages = 8; logical = 8 }
+seven = record { blocks = 7; pages = 8; logical = 8; planes = 1 }
 
-lone-4-cut-told : cutEvent (lone 4 ones) (world w14) noBit ≡ cutIn (lone 4 ones) true (minus blank p23) noBit
+lone-4-cut-told : cutEvent (lone 4 ones) (world w14) [] noBit still ≡ cutIn (lone 4 ones) true (minus blank p23) noBit
 unfolding paged p16 p17 p18 p19 p20 p21 p22 p23
 lone-4-cut-told = page-told w14 (lone 4 ones) noBit 23 p23 blank (lone-op w14 refl refl refl 4 ones refl refl 23 refl refl refl) refl
 
-lone-4-cut-left : cutArray (lone 4 ones) (world w14) noBit ≡ flat (w14 .pages)
+lone-4-cut-left : cutArray (lone 4 ones) (world w14) [] noBit still ≡ flat (w14 .pages)
 unfolding paged p16 p17 p18 p19 p20 p21 p22 p23
 lone-4-cut-left = page-left w14 (lone 4 ones) noBit 23 p23 blank (lone-op w14 refl refl refl 4 ones refl refl 23 refl refl refl) refl blank refl
 
-begin-9-told : cutEvent (begin 9) (world w14) [] ≡ cutIn (begin 9) false [] []
+begin-9-told : cutEvent (begin 9) (world w14) [] [] still ≡ cutIn (begin 9) false [] []
 unfolding paged p16 p17 p18 p19 p20 p21 p22
 begin-9-told = idle-told w14 (begin 9) [] (begin-op w14 refl refl refl 9 refl refl refl)
 
-begin-9-left : cutArray (begin 9) (world w14) [] ≡ flat (w14 .pages)
+begin-9-left : cutArray (begin 9) (world w14) [] [] still ≡ flat (w14 .pages)
 unfolding paged p16 p17 p18 p19 p20 p21 p22
 begin-9-left = idle-left w14 (begin 9) [] (begin-op w14 refl refl refl 9 refl refl refl)
 
@@ -635,8 +636,8 @@ events4 =
     ∷ called (recover small) 0
     ∷ []
 
-pub run4 : Run small (live (world w14)) events4 (live (world w14))
-unfolding go fits bytes refused
+pub run4 : Run small (live (world w14) []) events4 (live (world w14) [])
+unfolding go fits bytes refused cutRuns
 run4 =
     cut-short (lone 4 ones) noBit lone-4-cut-told lone-4-cut-left refl tt
     (recovered (world (handed w14)) recover-14
@@ -646,7 +647,7 @@ run4 =
     (next (again (flat (w14 .pages)))
     (turned-down (format seven) (world (handed w14)) 1 (refused-stays (format seven) (world (handed w14)) 1 seven-refused) refl refl (ap (λ (p : Plan). refused (p .answer)) seven-refused) refl
     (recovered (world (handed w14)) recover-14
-    (next (between (world w14))
+    (next (between (world w14) [] still)
     (recovered (world (handed w14)) recover-14
     (stop _))))))))))
 
@@ -683,11 +684,11 @@ reclaim-2 = reclaim-copies w18 2 refl refl refl refl refl 23 4 25 ones p25 refl 
 abbrev pub oneByte : List ℕ
 oneByte = 255 ∷ replicate 4223 0
 
-erase-2-told : cutEvent reclaim (world w19) oneByte ≡ cutIn reclaim false (zerosOf (flat block2)) oneByte
+erase-2-told : cutEvent reclaim (world w19) [] oneByte still ≡ cutIn reclaim false (zerosOf (flat block2)) oneByte
 unfolding paged flat p16 p17 p18 p19 p20 p21 p22 p23
 erase-2-told = block-told w19 reclaim oneByte 2 8 (flat block2) (reclaim-op w19 2 refl refl refl refl refl refl) (reclaim-shape w19 2 refl refl refl refl refl refl) refl
 
-erase-2-left : cutArray reclaim (world w19) oneByte ≡ flat (w20 .pages)
+erase-2-left : cutArray reclaim (world w19) [] oneByte still ≡ flat (w20 .pages)
 unfolding paged flat e16 p16 p17 p18 p19 p20 p21 p22 p23
 erase-2-left = block-left w19 reclaim oneByte 2 8 (flat block2) (reclaim-op w19 2 refl refl refl refl refl refl) (reclaim-shape w19 2 refl refl refl refl refl refl) refl (e16 ∷ drop 1 block2) refl
 
@@ -718,20 +719,20 @@ events5 =
     ∷ called (recover small) 0
     ∷ []
 
-pub run5 : Run small (live (world w14)) events5 (live (world w22))
+pub run5 : Run small (live (world w14) []) events5 (live (world w22) [])
 unfolding go fits bytes refused
 run5 =
-    answered reclaim 15 reclaim-none-left refl tt
-    (answered (lone 4 ones) 0 lone-4 refl tt
-    (answered checkpoint 255 checkpoint-1 refl tt
-    (answered (begin 9) 17 begin-busy refl tt
-    (answered checkpoint 0 checkpoint-2 refl tt
-    (answered reclaim 255 reclaim-1 refl tt
-    (answered reclaim 255 reclaim-2 refl tt
+    answered reclaim 15 reclaim-none-left refl tt refl
+    (answered (lone 4 ones) 0 lone-4 refl tt refl
+    (answered checkpoint 255 checkpoint-1 refl tt refl
+    (answered (begin 9) 17 begin-busy refl tt refl
+    (answered checkpoint 0 checkpoint-2 refl tt refl
+    (answered reclaim 255 reclaim-1 refl tt refl
+    (answered reclaim 255 reclaim-2 refl tt refl
     (cut-short reclaim oneByte erase-2-told erase-2-left refl tt
     (recovered (world (handed w20)) recover-20
-    (answered reclaim 0 reclaim-3 refl tt
-    (answered (recover small) 0 recover-22 refl refl
+    (answered reclaim 0 reclaim-3 refl tt refl
+    (answered (recover small) 0 recover-22 refl refl refl
     (stop _)))))))))))
 
 -- ---- 6: eight changes are opened, a ninth is refused
@@ -771,18 +772,18 @@ events6 =
     ∷ called (begin 19) 9
     ∷ []
 
-pub run6 : Run small (live (world w22)) events6 (live (world (many 8)))
+pub run6 : Run small (live (world w22) []) events6 (live (world (many 8)) [])
 unfolding paged fits p24 p25 begunFrom
 run6 =
-    answered (begin 11) 0 (begin-next 0 refl refl refl refl refl) refl tt
-    (answered (begin 12) 0 (begin-next 1 refl refl refl refl refl) refl tt
-    (answered (begin 13) 0 (begin-next 2 refl refl refl refl refl) refl tt
-    (answered (begin 14) 0 (begin-next 3 refl refl refl refl refl) refl tt
-    (answered (begin 15) 0 (begin-next 4 refl refl refl refl refl) refl tt
-    (answered (begin 16) 0 (begin-next 5 refl refl refl refl refl) refl tt
-    (answered (begin 17) 0 (begin-next 6 refl refl refl refl refl) refl tt
-    (answered (begin 18) 0 (begin-next 7 refl refl refl refl refl) refl tt
-    (answered (begin 19) 9 begin-ninth refl tt (stop _)))))))))
+    answered (begin 11) 0 (begin-next 0 refl refl refl refl refl) refl tt refl
+    (answered (begin 12) 0 (begin-next 1 refl refl refl refl refl) refl tt refl
+    (answered (begin 13) 0 (begin-next 2 refl refl refl refl refl) refl tt refl
+    (answered (begin 14) 0 (begin-next 3 refl refl refl refl refl) refl tt refl
+    (answered (begin 15) 0 (begin-next 4 refl refl refl refl refl) refl tt refl
+    (answered (begin 16) 0 (begin-next 5 refl refl refl refl refl) refl tt refl
+    (answered (begin 17) 0 (begin-next 6 refl refl refl refl refl) refl tt refl
+    (answered (begin 18) 0 (begin-next 7 refl refl refl refl refl) refl tt refl
+    (answered (begin 19) 9 begin-ninth refl tt refl (stop _)))))))))
 
 -- ---- 7: a change whose mark is a drop, the commit cut one bit short; then one of a drop alone, its commit cut at its last bit
 recover-many : exec (recover small) (world (many 8)) ≡ record { answer = 0; world = world w22 }
@@ -803,16 +804,16 @@ drop-21-3 = next-drop w24 refl refl refl 21 refl 3 refl 26 refl p26 refl refl re
 
 -- its mark, of which bit 2 of byte 512 is not let turn: the data have no zero bit
 unfoldable pub mark21 : List ℕ
-mark21 = changeBytes gone true 3 2 21 7
+mark21 = changeBytes gone true 3 2 21 7 0
 
 abbrev pub butLater : List ℕ
 butLater = replicate 512 255 ++ (251 ∷ [])
 
-commit-21-told : cutEvent (commit 21) (world w25) butLater ≡ cutIn (commit 21) true (minus blank mark21) (ands (minus blank mark21) butLater)
+commit-21-told : cutEvent (commit 21) (world w25) [] butLater still ≡ cutIn (commit 21) true (minus blank mark21) (ands (minus blank mark21) butLater)
 unfolding paged mark21 p24 p25 p26
 commit-21-told = page-told w25 (commit 21) butLater 27 mark21 blank (commit-op w25 refl refl refl 21 refl 27 refl refl refl refl) refl
 
-commit-21-left : cutArray (commit 21) (world w25) butLater ≡ flat (w26 .pages)
+commit-21-left : cutArray (commit 21) (world w25) [] butLater still ≡ flat (w26 .pages)
 unfolding paged mark21 p24 p25 p26 p27
 commit-21-left = page-left w25 (commit 21) butLater 27 mark21 blank (commit-op w25 refl refl refl 21 refl 27 refl refl refl refl) refl p27 refl
 
@@ -832,11 +833,11 @@ drop-22-3 : exec (dropPage 22 3) (world w27) ≡ record { answer = 0; world = wo
 unfolding paged p24 p25 p26 p27
 drop-22-3 = first-drop w27 refl refl refl 22 refl 3 refl 28 refl refl
 
-commit-22-told : cutEvent (commit 22) (world w28) [] ≡ cutIn (commit 22) true (minus blank p28) (minus blank p28)
+commit-22-told : cutEvent (commit 22) (world w28) [] [] still ≡ cutIn (commit 22) true (minus blank p28) (minus blank p28)
 unfolding paged p24 p25 p26 p27 p28
 commit-22-told = page-told w28 (commit 22) [] 28 p28 blank (commit-op w28 refl refl refl 22 refl 28 refl refl refl refl) refl
 
-commit-22-left : cutArray (commit 22) (world w28) [] ≡ flat (w29 .pages)
+commit-22-left : cutArray (commit 22) (world w28) [] [] still ≡ flat (w29 .pages)
 unfolding paged p24 p25 p26 p27 p28
 commit-22-left = page-left w28 (commit 22) [] 28 p28 blank (commit-op w28 refl refl refl 22 refl 28 refl refl refl refl) refl p28 refl
 
@@ -864,28 +865,28 @@ events7 =
     ∷ called (read 3) 14
     ∷ []
 
-pub run7 : Run small (live (world (many 8))) events7 (live (world w29))
+pub run7 : Run small (live (world (many 8)) []) events7 (live (world w29) [])
 unfolding go fits bytes refused
 run7 =
-    answered (recover small) 0 recover-many refl refl
-    (answered (begin 21) 0 begin-21 refl tt
-    (answered (write 21 4 ones) 0 write-21-4 refl tt
-    (answered (dropPage 21 3) 0 drop-21-3 refl tt
+    answered (recover small) 0 recover-many refl refl refl
+    (answered (begin 21) 0 begin-21 refl tt refl
+    (answered (write 21 4 ones) 0 write-21-4 refl tt refl
+    (answered (dropPage 21 3) 0 drop-21-3 refl tt refl
     (cut-short (commit 21) butLater commit-21-told commit-21-left refl tt
     (recovered (world (handed w26)) recover-26
-    (answered (read 3) 0 read-3-kept refl tt
-    (answered (begin 22) 0 begin-22 refl tt
-    (answered (dropPage 22 3) 0 drop-22-3 refl tt
+    (answered (read 3) 0 read-3-kept refl tt refl
+    (answered (begin 22) 0 begin-22 refl tt refl
+    (answered (dropPage 22 3) 0 drop-22-3 refl tt refl
     (cut-short (commit 22) [] commit-22-told commit-22-left refl tt
     (recovered (world (handed w29)) recover-29
-    (answered (read 3) 14 read-3-dropped refl tt
+    (answered (read 3) 14 read-3-dropped refl tt refl
     (stop _))))))))))))
 
 -- ---- the whole of it
 abbrev pub events : List Event
 events = events1 ++ (events2 ++ (events3 ++ (events4 ++ (events5 ++ (events6 ++ events7)))))
 
-pub every-command-done : Run small (live (world w0)) events (live (world w29))
+pub every-command-done : Run small (live (world w0) []) events (live (world w29) [])
 every-command-done = joined run1 (joined run2 (joined run3 (joined run4 (joined run5 (joined run6 run7)))))
 
 -- ---- its book

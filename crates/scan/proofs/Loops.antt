@@ -1,4 +1,4 @@
--- A turn of each loop over lists of pages: pages listed, pages picked by their notes, keys that rise along the marks. Assumes nothing.
+-- A turn of each loop over lists of pages: pages listed, pages picked by their notes, keys and write numbers that rise. Assumes nothing.
 use mathlib.Core.Path.{_≡_, refl, sym, ap, _∙_, subst}
 use mathlib.Core.Logic.{_≢_}
 use mathlib.Core.Bool.{Bool, true, false, cond, _&&_}
@@ -18,10 +18,11 @@ use Rattle.arrays.specs.Tests.{length-up, up-more}
 use Rattle.arrays.specs.Pages.{block-page-fits}
 use Rattle.ranks.specs.Dealt.{Each, each-append}
 use Rattle.sorting.specs.Sort.{keyAt, Pages}
+use Rattle.sorting.proofs.Keys.{page-byte}
 use Rattle.scan.specs.Taken.{Blocks, listed}
 use Rattle.table.specs.Looking.{lookOf}
 use Rattle.scan.specs.Notes.{noteOf, noteAt, notesOf, inside, picked}
-use Rattle.scan.specs.Judged.{markAt, risesFrom}
+use Rattle.scan.specs.Judged.{markAt, risesFrom, numberAt, numbersFrom}
 use Rattle.scan.proofs.Visiting.{notes-more}
 
 -- ---- pages listed
@@ -169,11 +170,32 @@ module _ (xs : List ℕ) (at last : ℕ) (ks : List ℕ) (i : ℕ) (h : i < leng
       pub rise-not : key ≤ last → risesFrom xs at last (drop i ks) ≡ false
       rise-not l = mark-next ∙ rw (le-ltb last key l)
 
+none-left : (ks : List ℕ) (i : ℕ) → length ks ≤ i → drop i ks ≡ []
+none-left [] zero l = refl
+none-left [] (suc i) l = refl
+none-left (k ∷ ks) zero l = absurd (omega arith)
+none-left (k ∷ ks) (suc i) l = none-left ks i (omega arith)
+
 pub rise-end : (xs : List ℕ) (at last : ℕ) (ks : List ℕ) (i : ℕ) → length ks ≤ i → risesFrom xs at last (drop i ks) ≡ true
-rise-end xs at last ks i h = ap (risesFrom xs at last) (none ks i h) ∙ unfold risesFrom in refl
-  where
-    none : (ks : List ℕ) (i : ℕ) → length ks ≤ i → drop i ks ≡ []
-    none [] zero l = refl
-    none [] (suc i) l = refl
-    none (k ∷ ks) zero l = absurd (omega arith)
-    none (k ∷ ks) (suc i) l = none ks i (omega arith)
+rise-end xs at last ks i h = ap (risesFrom xs at last) (none-left ks i h) ∙ unfold risesFrom in refl
+
+-- ---- write numbers that rise
+-- the number that a page gives
+pub number-is : (xs : List ℕ) (k : ℕ) (page : List ℕ) → page ≡ pageAt xs k → (id : ℕ) → id ≡ le32 page 516 → id * 256 + getD page 525 0 ≡ numberAt xs k
+unfolding numberAt keyAt
+number-is xs k page e id q = rw (q, e) (ap (λ (n : ℕ). le32 (pageAt xs k) 516 * 256 + n) (page-byte xs k 525 (omega arith)))
+
+module _ (xs : List ℕ) (last : ℕ) (ks : List ℕ) (i : ℕ) (h : i < length ks) (key : ℕ) (e : key ≡ numberAt xs (getD ks i 0)) where
+  number-next : numbersFrom xs last (drop i ks) ≡ (ltb last key && numbersFrom xs key (drop (i + 1) ks))
+  number-next =
+      ap (numbersFrom xs last) (drop-cons ks i 0 h) ∙ ap (λ (j : ℕ). numbersFrom xs last (getD ks i 0 ∷ drop j ks)) (sym (add-one i))
+      ∙ unfold numbersFrom in rw e
+
+  pub number-more : last < key → numbersFrom xs last (drop i ks) ≡ numbersFrom xs key (drop (i + 1) ks)
+  number-more l = number-next ∙ rw (lt-ltb last key l)
+
+  pub number-not : key ≤ last → numbersFrom xs last (drop i ks) ≡ false
+  number-not l = number-next ∙ rw (le-ltb last key l)
+
+pub number-end : (xs : List ℕ) (last : ℕ) (ks : List ℕ) (i : ℕ) → length ks ≤ i → numbersFrom xs last (drop i ks) ≡ true
+number-end xs last ks i h = ap (numbersFrom xs last) (none-left ks i h) ∙ unfold numbersFrom in refl

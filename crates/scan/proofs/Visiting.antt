@@ -9,13 +9,13 @@ use native.Mathlib.Nat.{add-zero}
 use native.Mathlib.Numerals.{add-one}
 use lib.ListN.{length, take, getD}
 use lib.Seq.{take-suc}
-use lib.Dec.{eqb, ltb}
+use lib.Dec.{eqb, leb, ltb}
 use borrow.Author.Tests.{ltb-true, ltb-false}
 use Rattle.model.specs.Lists.{all, keep, those}
 use Rattle.model.specs.Bytes.{le16}
 use Rattle.model.specs.Page.{isWhole, spareOf, pageAt, wholeAt}
 use Rattle.model.specs.Zones.{Entry, entryOf}
-use Rattle.model.specs.Recovery.{isMark, markNew, entryGood, top}
+use Rattle.model.specs.Recovery.{isMark, numberGood, markNew, entryGood, top}
 use Rattle.model.specs.declared.Spare.{Spare}
 use Rattle.arrays.specs.Tests.{Is, eqb-cases, decide, and-left, and-right}
 use Rattle.table.specs.declared.Looked.{Looked}
@@ -26,21 +26,21 @@ use Rattle.ranks.specs.Clear.{Fine, fine-ver, all-entries}
 use Rattle.ranks.specs.Parts.{isChange}
 use Rattle.sorting.specs.Sort.{keyAt}
 use Rattle.scan.specs.Taken.{entryIn, entriesIn}
-use Rattle.scan.specs.Notes.{noteOf, noteAt, notesOf, inside, noted, numbersGood, spareGood, risen, counted, met, metAll, start}
+use Rattle.scan.specs.Notes.{noteOf, noteAt, notesOf, inside, noted, numbersGood, numberFine, spareGood, risen, counted, met, metAll, start}
 use Rattle.scan.specs.Judged.{markAt}
 use Rattle.scan.specs.declared.Seen.{Seen}
 use Rattle.scan.proofs.Listing.{wholes, entries-length, entries-those}
 
 -- ---- one more page at the end
-met-append : (logical : ℕ) (xs ks ls : List ℕ) (m : Seen) → metAll logical xs (ks ++ ls) m ≡ metAll logical xs ls (metAll logical xs ks m)
+met-append : (planes logical : ℕ) (xs ks ls : List ℕ) (m : Seen) → metAll planes logical xs (ks ++ ls) m ≡ metAll planes logical xs ls (metAll planes logical xs ks m)
 unfolding metAll
-met-append logical xs [] ls m = refl
-met-append logical xs (k ∷ ks) ls m = met-append logical xs ks ls (met logical m (lookOf (pageAt xs k)))
+met-append planes logical xs [] ls m = refl
+met-append planes logical xs (k ∷ ks) ls m = met-append planes logical xs ks ls (met planes logical m (lookOf (pageAt xs k)))
 
-pub met-more : (logical : ℕ) (xs ks : List ℕ) (m : Seen) (i : ℕ) → i < length ks
-    → metAll logical xs (take (i + 1) ks) m ≡ met logical (metAll logical xs (take i ks) m) (lookOf (pageAt xs (getD ks i 0)))
+pub met-more : (planes logical : ℕ) (xs ks : List ℕ) (m : Seen) (i : ℕ) → i < length ks
+    → metAll planes logical xs (take (i + 1) ks) m ≡ met planes logical (metAll planes logical xs (take i ks) m) (lookOf (pageAt xs (getD ks i 0)))
 unfolding metAll
-met-more logical xs ks m i h = rw (add-one i, take-suc ks i 0 h) (met-append logical xs (take i ks) (getD ks i 0 ∷ []) m)
+met-more planes logical xs ks m i h = rw (add-one i, take-suc ks i 0 h) (met-append planes logical xs (take i ks) (getD ks i 0 ∷ []) m)
 
 notes-append : (xs ks ls : List ℕ) → notesOf xs (ks ++ ls) ≡ notesOf xs ks ++ notesOf xs ls
 unfolding notesOf
@@ -81,9 +81,9 @@ counted-few m id = rw (counted-is m id) (go (eqb id 0))
     go true = omega arith
     go false = omega arith
 
-met-one : (logical : ℕ) (m : Seen) (l : Looked) → met logical m l .changes ≤ m .changes + 1
+met-one : (planes logical : ℕ) (m : Seen) (l : Looked) → met planes logical m l .changes ≤ m .changes + 1
 unfolding met
-met-one logical m l = go (isWhole (l .class)) (spareGood logical (l .spare)) (eqb (l .spare .cnt) 0)
+met-one planes logical m l = go (isWhole (l .class)) (spareGood planes logical (l .spare)) (eqb (l .spare .cnt) 0)
   where
     c : Seen
     c = counted m (l .spare .id)
@@ -96,50 +96,50 @@ met-one logical m l = go (isWhole (l .class)) (spareGood logical (l .spare)) (eq
     go true false t = omega arith
     go false g t = omega arith
 
-pub met-few : (logical : ℕ) (xs ks : List ℕ) (m : Seen) → metAll logical xs ks m .changes ≤ m .changes + length ks
+pub met-few : (planes logical : ℕ) (xs ks : List ℕ) (m : Seen) → metAll planes logical xs ks m .changes ≤ m .changes + length ks
 unfolding metAll
-met-few logical xs [] m = omega arith
-met-few logical xs (k ∷ ks) m =
+met-few planes logical xs [] m = omega arith
+met-few planes logical xs (k ∷ ks) m =
     let l = lookOf (pageAt xs k) in
-    omega (arith, met-few logical xs ks (met logical m l), met-one logical m l)
+    omega (arith, met-few planes logical xs ks (met planes logical m l), met-one planes logical m l)
 
 -- ---- the entries of the whole pages, met one after the other
-unfoldable meets : ℕ → Seen → Entry → Seen
-meets logical m e =
-    cond (entryGood logical [] e)
+unfoldable meets : ℕ → ℕ → Seen → Entry → Seen
+meets planes logical m e =
+    cond (entryGood planes logical [] e)
     (cond (eqb (e .cnt) 0) (counted m (e .id)) (risen (counted m (e .id)) (e .ver)))
     (record { good = false; top = m .top; rising = m .rising; changes = m .changes })
 
-unfoldable meetsAll : ℕ → List Entry → Seen → Seen
-meetsAll logical [] m = m
-meetsAll logical (e ∷ es) m = meetsAll logical es (meets logical m e)
+unfoldable meetsAll : ℕ → ℕ → List Entry → Seen → Seen
+meetsAll planes logical [] m = m
+meetsAll planes logical (e ∷ es) m = meetsAll planes logical es (meets planes logical m e)
 
 -- refusal 4 passes an entry by itself where it passes its spare area
-fine-is : (k logical : ℕ) (r : Spare) → entryGood logical [] (entryOf k r) ≡ spareGood logical r
-unfolding entryGood spareGood numbersGood entryOf markNew all
-fine-is k logical r = rw (or-true (eqb (r .id) 0), mark (eqb (r .cnt) 0) (eqb (r .ver) 0))
+fine-is : (k planes logical : ℕ) (r : Spare) → entryGood planes logical [] (entryOf k r) ≡ spareGood planes logical r
+unfolding entryGood spareGood numbersGood numberGood numberFine entryOf markNew all
+fine-is k planes logical r = rw (or-true (eqb (r .id) 0), mark (eqb (r .cnt) 0) (eqb (r .ver) 0), and-true (leb (r .reserved) 41))
   where
     mark : (t v : Bool) → cond (not t) (not v && true) v ≡ cond t v (not v)
     mark true v = refl
     mark false v = and-true (not v)
 
-met-whole : (logical : ℕ) (xs : List ℕ) (k : ℕ) (m : Seen) → wholeAt xs k ≡ true → met logical m (lookOf (pageAt xs k)) ≡ meets logical m (entryIn xs k)
+met-whole : (planes logical : ℕ) (xs : List ℕ) (k : ℕ) (m : Seen) → wholeAt xs k ≡ true → met planes logical m (lookOf (pageAt xs k)) ≡ meets planes logical m (entryIn xs k)
 unfolding met lookOf wholeAt meets entryIn
-met-whole logical xs k m w = rw (w, fine-is k logical (spareOf (pageAt xs k))) (unfold entryOf in refl)
+met-whole planes logical xs k m w = rw (w, fine-is k planes logical (spareOf (pageAt xs k))) (unfold entryOf in refl)
 
-met-torn : (logical : ℕ) (xs : List ℕ) (k : ℕ) (m : Seen) → wholeAt xs k ≡ false → met logical m (lookOf (pageAt xs k)) ≡ m
+met-torn : (planes logical : ℕ) (xs : List ℕ) (k : ℕ) (m : Seen) → wholeAt xs k ≡ false → met planes logical m (lookOf (pageAt xs k)) ≡ m
 unfolding met lookOf wholeAt
-met-torn logical xs k m w = rw w
+met-torn planes logical xs k m w = rw w
 
-met-entries : (logical : ℕ) (xs ks : List ℕ) (m : Seen) → metAll logical xs ks m ≡ meetsAll logical (entriesIn xs (wholes xs ks)) m
+met-entries : (planes logical : ℕ) (xs ks : List ℕ) (m : Seen) → metAll planes logical xs ks m ≡ meetsAll planes logical (entriesIn xs (wholes xs ks)) m
 unfolding metAll meetsAll those entriesIn
-met-entries logical xs [] m = refl
-met-entries logical xs (k ∷ ks) m = go (decide (wholeAt xs k)) (λ n. met-entries logical xs ks n)
+met-entries planes logical xs [] m = refl
+met-entries planes logical xs (k ∷ ks) m = go (decide (wholeAt xs k)) (λ n. met-entries planes logical xs ks n)
   where
-    go : (wholeAt xs k ≡ true) ⊎ (wholeAt xs k ≡ false) → ((n : Seen) → metAll logical xs ks n ≡ meetsAll logical (entriesIn xs (wholes xs ks)) n)
-        → metAll logical xs ks (met logical m (lookOf (pageAt xs k))) ≡ meetsAll logical (entriesIn xs (keep (wholeAt xs k) (k ∷ []) ++ wholes xs ks)) m
-    go (inl w) ih = rw (met-whole logical xs k m w, w) (ih (meets logical m (entryIn xs k)))
-    go (inr w) ih = rw (met-torn logical xs k m w, w) (ih m)
+    go : (wholeAt xs k ≡ true) ⊎ (wholeAt xs k ≡ false) → ((n : Seen) → metAll planes logical xs ks n ≡ meetsAll planes logical (entriesIn xs (wholes xs ks)) n)
+        → metAll planes logical xs ks (met planes logical m (lookOf (pageAt xs k))) ≡ meetsAll planes logical (entriesIn xs (keep (wholeAt xs k) (k ∷ []) ++ wholes xs ks)) m
+    go (inl w) ih = rw (met-whole planes logical xs k m w, w) (ih (meets planes logical m (entryIn xs k)))
+    go (inr w) ih = rw (met-torn planes logical xs k m w, w) (ih m)
 
 -- what a fine entry does
 abbrev after : Seen → Entry → Seen
@@ -151,9 +151,9 @@ after m e =
       changes = m .changes + cond (eqb (e .id) 0) 0 1;
     }
 
-fine-meets : (logical : ℕ) (m : Seen) (e : Entry) → Fine logical e → meets logical m e ≡ after m e
+fine-meets : (planes logical : ℕ) (m : Seen) (e : Entry) → Fine planes logical e → meets planes logical m e ≡ after m e
 unfolding meets
-fine-meets logical m e h = rw (h, risen-is (counted m (e .id)) (e .ver), counted-is m (e .id)) (go (eqb-cases (e .cnt) 0))
+fine-meets planes logical m e h = rw (h, risen-is (counted m (e .id)) (e .ver), counted-is m (e .id)) (go (eqb-cases (e .cnt) 0))
   where
     n : ℕ
     n = m .changes + cond (eqb (e .id) 0) 0 1
@@ -163,50 +163,50 @@ fine-meets logical m e h = rw (h, risen-is (counted m (e .id)) (e .ver), counted
         (record { good = m .good; top = max (m .top) (e .ver); rising = m .rising && ltb (m .top) (e .ver); changes = n })
         ≡ after m e
     go (inl q) =
-        let z : e .ver ≡ 0 = fine-ver logical e h .0 (q .0) in
+        let z : e .ver ≡ 0 = fine-ver planes logical e h .0 (q .0) in
         let u : max (m .top) (e .ver) ≡ m .top = omega arith in
         rw (q .1, u, and-true (m .rising))
     go (inr q) = rw (q .1)
 
-meets-fine : (logical : ℕ) (e : Entry) (es : List Entry) (m : Seen) → Fine logical e → meetsAll logical (e ∷ es) m ≡ meetsAll logical es (after m e)
+meets-fine : (planes logical : ℕ) (e : Entry) (es : List Entry) (m : Seen) → Fine planes logical e → meetsAll planes logical (e ∷ es) m ≡ meetsAll planes logical es (after m e)
 unfolding meetsAll
-meets-fine logical e es m h = ap (meetsAll logical es) (fine-meets logical m e h)
+meets-fine planes logical e es m h = ap (meetsAll planes logical es) (fine-meets planes logical m e h)
 
 -- ---- what was met of all
 -- every entry is fine
-meets-good : (logical : ℕ) (es : List Entry) (m : Seen) → meetsAll logical es m .good ≡ (m .good && all (entryGood logical []) es)
+meets-good : (planes logical : ℕ) (es : List Entry) (m : Seen) → meetsAll planes logical es m .good ≡ (m .good && all (entryGood planes logical []) es)
 unfolding meetsAll all
-meets-good logical [] m = sym (and-true (m .good))
-meets-good logical (e ∷ es) m = meets-good logical es (meets logical m e) ∙ go (decide (entryGood logical [] e))
+meets-good planes logical [] m = sym (and-true (m .good))
+meets-good planes logical (e ∷ es) m = meets-good planes logical es (meets planes logical m e) ∙ go (decide (entryGood planes logical [] e))
   where
-    go : (entryGood logical [] e ≡ true) ⊎ (entryGood logical [] e ≡ false)
-        → (meets logical m e .good && all (entryGood logical []) es) ≡ (m .good && (entryGood logical [] e && all (entryGood logical []) es))
-    go (inl t) = rw (fine-meets logical m e t, t)
+    go : (entryGood planes logical [] e ≡ true) ⊎ (entryGood planes logical [] e ≡ false)
+        → (meets planes logical m e .good && all (entryGood planes logical []) es) ≡ (m .good && (entryGood planes logical [] e && all (entryGood planes logical []) es))
+    go (inl t) = rw (fine-meets planes logical m e t, t)
     go (inr t) = unfold meets in rw t (sym (and-false (m .good)))
 
-pub met-good : (logical : ℕ) (xs ks : List ℕ) → metAll logical xs ks start .good ≡ all (λ (e : Entry). entryGood logical [] e) (entriesIn xs (wholes xs ks))
-met-good logical xs ks = rw (met-entries logical xs ks start) (meets-good logical (entriesIn xs (wholes xs ks)) start)
+pub met-good : (planes logical : ℕ) (xs ks : List ℕ) → metAll planes logical xs ks start .good ≡ all (λ (e : Entry). entryGood planes logical [] e) (entriesIn xs (wholes xs ks))
+met-good planes logical xs ks = rw (met-entries planes logical xs ks start) (meets-good planes logical (entriesIn xs (wholes xs ks)) start)
 
-pub met-fine : (logical : ℕ) (xs ks : List ℕ) → metAll logical xs ks start .good ≡ true → Entries (Fine logical) (entriesIn xs (wholes xs ks))
-met-fine logical xs ks h = all-entries (entryGood logical []) (entriesIn xs (wholes xs ks)) (sym (met-good logical xs ks) ∙ h)
+pub met-fine : (planes logical : ℕ) (xs ks : List ℕ) → metAll planes logical xs ks start .good ≡ true → Entries (Fine planes logical) (entriesIn xs (wholes xs ks))
+met-fine planes logical xs ks h = all-entries (entryGood planes logical []) (entriesIn xs (wholes xs ks)) (sym (met-good planes logical xs ks) ∙ h)
 
 -- the highest version
-meets-top : (logical : ℕ) (es : List Entry) (m : Seen) → Entries (Fine logical) es → meetsAll logical es m .top ≡ max (m .top) (top es)
+meets-top : (planes logical : ℕ) (es : List Entry) (m : Seen) → Entries (Fine planes logical) es → meetsAll planes logical es m .top ≡ max (m .top) (top es)
 unfolding meetsAll top
-meets-top logical [] m h = omega arith
-meets-top logical (e ∷ es) m h = rw (meets-fine logical e es m (h .0)) (omega (arith, meets-top logical es (after m e) (h .1)))
+meets-top planes logical [] m h = omega arith
+meets-top planes logical (e ∷ es) m h = rw (meets-fine planes logical e es m (h .0)) (omega (arith, meets-top planes logical es (after m e) (h .1)))
 
-pub met-top : (logical : ℕ) (xs ks : List ℕ) → metAll logical xs ks start .good ≡ true → metAll logical xs ks start .top ≡ top (entriesIn xs (wholes xs ks))
-met-top logical xs ks h =
+pub met-top : (planes logical : ℕ) (xs ks : List ℕ) → metAll planes logical xs ks start .good ≡ true → metAll planes logical xs ks start .top ≡ top (entriesIn xs (wholes xs ks))
+met-top planes logical xs ks h =
     let es = entriesIn xs (wholes xs ks) in
-    rw (met-entries logical xs ks start) (omega (arith, meets-top logical es start (met-fine logical xs ks h)))
+    rw (met-entries planes logical xs ks start) (omega (arith, meets-top planes logical es start (met-fine planes logical xs ks h)))
 
 -- versions that rise differ
-meets-rising : (logical : ℕ) (es : List Entry) (m : Seen) → Entries (Fine logical) es → meetsAll logical es m .rising ≡ true
+meets-rising : (planes logical : ℕ) (es : List Entry) (m : Seen) → Entries (Fine planes logical) es → meetsAll planes logical es m .rising ≡ true
     → (m .rising ≡ true) × (Entries (λ (e : Entry). m .top < e .ver) (those isMark es) × Distinct (λ (e : Entry). e .ver) (those isMark es))
 unfolding meetsAll those
-meets-rising logical [] m f h = (h, (tt, tt))
-meets-rising logical (e ∷ es) m f h = go (eqb-cases (e .cnt) 0) (meets-rising logical es (after m e) (f .1) (rw (meets-fine logical e es m (f .0)) at h))
+meets-rising planes logical [] m f h = (h, (tt, tt))
+meets-rising planes logical (e ∷ es) m f h = go (eqb-cases (e .cnt) 0) (meets-rising planes logical es (after m e) (f .1) (rw (meets-fine planes logical e es m (f .0)) at h))
   where
     High : ℕ → List Entry → Type 0
     High v = Entries (λ (e : Entry). v < e .ver)
@@ -225,20 +225,20 @@ meets-rising logical (e ∷ es) m f h = go (eqb-cases (e .cnt) 0) (meets-rising 
         let other : Entries (λ (y : Entry). e .ver ≢ y .ver) (those isMark es) = each-map _ _ (λ y l s. absurd (omega arith)) (those isMark es) (r .1 .0) in
         (and-left (m .rising) _ t, rw (q .1) ((l, above), (other, r .1 .1)))
 
-pub met-rising : (logical : ℕ) (xs ks : List ℕ) → metAll logical xs ks start .good ≡ true → metAll logical xs ks start .rising ≡ true
+pub met-rising : (planes logical : ℕ) (xs ks : List ℕ) → metAll planes logical xs ks start .good ≡ true → metAll planes logical xs ks start .rising ≡ true
     → Distinct (λ (e : Entry). e .ver) (those isMark (entriesIn xs (wholes xs ks)))
-met-rising logical xs ks g h =
-    meets-rising logical (entriesIn xs (wholes xs ks)) start (met-fine logical xs ks g) (rw (met-entries logical xs ks start) at h) .1 .1
+met-rising planes logical xs ks g h =
+    meets-rising planes logical (entriesIn xs (wholes xs ks)) start (met-fine planes logical xs ks g) (rw (met-entries planes logical xs ks start) at h) .1 .1
 
 -- how many pages are of changes
-meets-changes : (logical : ℕ) (es : List Entry) (m : Seen) → Entries (Fine logical) es
-    → meetsAll logical es m .changes ≡ m .changes + length (those isChange es)
+meets-changes : (planes logical : ℕ) (es : List Entry) (m : Seen) → Entries (Fine planes logical) es
+    → meetsAll planes logical es m .changes ≡ m .changes + length (those isChange es)
 unfolding meetsAll those
-meets-changes logical [] m h = omega arith
-meets-changes logical (e ∷ es) m h = rw (meets-fine logical e es m (h .0)) (go (eqb (e .id) 0) (meets-changes logical es (after m e) (h .1)))
+meets-changes planes logical [] m h = omega arith
+meets-changes planes logical (e ∷ es) m h = rw (meets-fine planes logical e es m (h .0)) (go (eqb (e .id) 0) (meets-changes planes logical es (after m e) (h .1)))
   where
-    go : (t : Bool) → meetsAll logical es (after m e) .changes ≡ m .changes + cond t 0 1 + length (those isChange es)
-        → meetsAll logical es (after m e) .changes ≡ m .changes + length (keep (not t) (e ∷ []) ++ those isChange es)
+    go : (t : Bool) → meetsAll planes logical es (after m e) .changes ≡ m .changes + cond t 0 1 + length (those isChange es)
+        → meetsAll planes logical es (after m e) .changes ≡ m .changes + length (keep (not t) (e ∷ []) ++ those isChange es)
     go true ih = omega arith
     go false ih = omega arith
 
@@ -313,10 +313,10 @@ noted-marks xs ks =
     go false false = refl
 
 -- as many pages of changes were met as were noted
-pub met-changes : (logical : ℕ) (xs ks : List ℕ) → metAll logical xs ks start .good ≡ true → metAll logical xs ks start .changes ≡ length (noted xs 1 2 ks)
+pub met-changes : (planes logical : ℕ) (xs ks : List ℕ) → metAll planes logical xs ks start .good ≡ true → metAll planes logical xs ks start .changes ≡ length (noted xs 1 2 ks)
 unfolding keyAt entryIn entryOf spareOf
-met-changes logical xs ks h =
+met-changes planes logical xs ks h =
     let ws = wholes xs ks in
     let e : length (those isChange (entriesIn xs ws)) ≡ length (noted xs 1 2 ks)
     = ap length (entries-those isChange xs ws) ∙ entries-length xs _ ∙ sym (ap length (noted-changes xs ks)) in
-    rw (met-entries logical xs ks start) (omega (arith, e, meets-changes logical (entriesIn xs ws) start (met-fine logical xs ks h)))
+    rw (met-entries planes logical xs ks start) (omega (arith, e, meets-changes planes logical (entriesIn xs ws) start (met-fine planes logical xs ks h)))

@@ -43,11 +43,15 @@ noted xs lo hi ks = those (λ (k : ℕ). inside lo hi (noteAt xs k)) ks
 unfoldable pub numbersGood : Spare → Bool
 numbersGood e = (not (eqb (e .id) 0) || eqb (e .cnt) 1) && cond (eqb (e .cnt) 0) (eqb (e .ver) 0) (not (eqb (e .ver) 0))
 
+-- Reserved: the write number of a page of a change on two planes, not "a zero" and not "a value above 41", else 0
+unfoldable pub numberFine : ℕ → Spare → Bool
+numberFine planes e = cond (eqb planes 2 && not (eqb (e .id) 0)) (leb 1 (e .reserved) && leb (e .reserved) 41) (eqb (e .reserved) 0)
+
 -- "Kind or Reserved not 0; LPN ≥ L; .. TxID or TxVer 0xFFFFFFFF"
-unfoldable pub spareGood : ℕ → Spare → Bool
-spareGood logical e =
+unfoldable pub spareGood : ℕ → ℕ → Spare → Bool
+spareGood planes logical e =
     kindGood (e .kind)
-    && (eqb (e .reserved) 0
+    && (numberFine planes e
     && (ltb (e .lpn) logical
     && (not (eqb (e .id) 4294967295)
     && (not (eqb (e .ver) 4294967295)
@@ -65,18 +69,18 @@ unfoldable pub counted : Seen → ℕ → Seen
 counted m id = cond (eqb id 0) m (record { good = m .good; top = m .top; rising = m .rising; changes = m .changes + 1 })
 
 -- with one more page
-unfoldable pub met : ℕ → Seen → Looked → Seen
-met logical m l =
+unfoldable pub met : ℕ → ℕ → Seen → Looked → Seen
+met planes logical m l =
     cond (isWhole (l .class))
-    (cond (spareGood logical (l .spare))
+    (cond (spareGood planes logical (l .spare))
     (cond (eqb (l .spare .cnt) 0) (counted m (l .spare .id)) (risen (counted m (l .spare .id)) (l .spare .ver)))
     (record { good = false; top = m .top; rising = m .rising; changes = m .changes }))
     m
 
 -- with these pages, one after the other
-unfoldable pub metAll : ℕ → List ℕ → List ℕ → Seen → Seen
-metAll logical xs [] m = m
-metAll logical xs (k ∷ ks) m = metAll logical xs ks (met logical m (lookOf (pageAt xs k)))
+unfoldable pub metAll : ℕ → ℕ → List ℕ → List ℕ → Seen → Seen
+metAll planes logical xs [] m = m
+metAll planes logical xs (k ∷ ks) m = metAll planes logical xs ks (met planes logical m (lookOf (pageAt xs k)))
 
 -- before any page
 abbrev pub start : Seen

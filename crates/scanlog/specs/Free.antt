@@ -67,7 +67,8 @@ module _ (g : Geometry) (z : Zones) (b : ℕ) (none : Unlisted z b) (inside : da
       let d : Distinct (a ++ (u ++ insert b f)) = λ c. once c (eqb-cases c b) (more c) (k .distinct c) in
       let r : (c : ℕ) → 0 < occ c (a ++ (u ++ insert b f)) → dataBlock g c ≡ true = λ c l. block c (eqb-cases c b) (more c) l (k .blocks c) in
       let s : length (a ++ (u ++ insert b f)) ≤ g .blocks - 2
-      = pigeon 2 (g .blocks - 2) (a ++ (u ++ insert b f)) d (λ c l. block-least g c (r c l)) (λ c l. omega (arith, block-least g c (r c l), block-most g c (r c l))) in
+      = pigeon 2 (g .blocks - 2) (a ++ (u ++ insert b f)) d (λ c l. block-least g c (r c l))
+      (λ c l. omega (arith, block-least g c (r c l), block-most g c (r c l))) in
       zonesOf-ok a u (insert b f) (z .pointer) g
       ∙ shape-ok g (length a) (length u) (length (insert b f)) a u (insert b f) (z .pointer) (record {
         sum = omega (arith, s, length-append a (u ++ insert b f), length-append u (insert b f));
@@ -78,7 +79,8 @@ module _ (g : Geometry) (z : Zones) (b : ℕ) (none : Unlisted z b) (inside : da
         pointer = k .pointer;
       })
     where
-      once : (c : ℕ) → Is c b → {x : ℕ} → x ≡ occ c (b ∷ []) + occ c (availableOf z ++ (unavailableOf z ++ freeOf z)) → occ c (availableOf z ++ (unavailableOf z ++ freeOf z)) ≤ 1 → x ≤ 1
+      once : (c : ℕ) → Is c b → {x : ℕ} → x ≡ occ c (b ∷ []) + occ c (availableOf z ++ (unavailableOf z ++ freeOf z))
+          → occ c (availableOf z ++ (unavailableOf z ++ freeOf z)) ≤ 1 → x ≤ 1
       once c (inl q) e l = omega (arith, occ-yes c b (q .0), e, none-listed, ap (λ (t : ℕ). occ t (availableOf z ++ (unavailableOf z ++ freeOf z))) (q .0))
       once c (inr q) e l = omega (arith, occ-no c b (q .0), e)
 
@@ -94,17 +96,19 @@ module _ (g : Geometry) (z : Zones) (b : ℕ) (none : Unlisted z b) (inside : da
       let k : Tidy g ys z = tidy-erase g xs z t b none fits in
       record {
         ok = freed-ok (t .ok);
-        order = rw (freed-available z b) (k .order);
+        order = λ one. rw (freed-available z b) (k .order one);
         blank = rw (freed-free z b)
             (is-each (λ (c : ℕ). usedIn ys p c ≡ 0) (insert b (freeOf z))
             (λ c l. each c (eqb-cases c b) (insert-occ c b (freeOf z)) l (each-is (λ (c : ℕ). usedIn ys p c ≡ 0) (freeOf z) (k .blank) c)));
       }
     where
-      each : (c : ℕ) → Is c b → {x n : ℕ} → x ≡ occ c (b ∷ []) + n → 0 < x → (0 < n → usedIn (applyOp (g .pages) (erase b) xs) (g .pages) c ≡ 0) → usedIn (applyOp (g .pages) (erase b) xs) (g .pages) c ≡ 0
+      each : (c : ℕ) → Is c b → {x n : ℕ} → x ≡ occ c (b ∷ []) + n → 0 < x → (0 < n → usedIn (applyOp (g .pages) (erase b) xs) (g .pages) c ≡ 0)
+          → usedIn (applyOp (g .pages) (erase b) xs) (g .pages) c ≡ 0
       each c (inl q) e l v = rw (q .0) (used-erase (g .pages) xs b fits)
       each c (inr q) e l v = v (omega (arith, occ-no c b (q .0)))
 
-  pub scan-freed : (xs : List ℕ) → Tidy g xs z → BlockFits (g .pages) xs b → scanOf (applyOp (g .pages) (erase b) xs) (g .pages) (freed z b) ≡ scanOf xs (g .pages) z
+  pub scan-freed : (xs : List ℕ) → Tidy g xs z → BlockFits (g .pages) xs b
+      → scanOf (applyOp (g .pages) (erase b) xs) (g .pages) (freed z b) ≡ scanOf xs (g .pages) z
   scan-freed xs t fits = freed-scan z b (applyOp (g .pages) (erase b) xs) (g .pages) ∙ scan-erase g xs z t b none fits
 
 -- ---- the zones of a checkpoint and those of a live state after it
@@ -132,6 +136,6 @@ module _ (z₀ z : Zones) (h : Grown z₀ z) where
   pub grown-tidy : (g : Geometry) (xs : List ℕ) → zonesOk g z₀ ≡ true → Tidy g xs z → Tidy g xs z₀
   grown-tidy g xs ok t = record {
     ok = ok;
-    order = subst (Order xs (g .pages)) (sym (h .available)) (t .order);
+    order = λ one. subst (Order xs (g .pages)) (sym (h .available)) (t .order one);
     blank = each-sub (λ (c : ℕ). usedIn xs (g .pages) c ≡ 0) (h .free) (t .blank);
   }

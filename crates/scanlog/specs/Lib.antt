@@ -1,4 +1,6 @@
 pub mod Sublist
+pub mod Perm
+pub mod Turn
 pub mod Occ
 pub mod Rising
 pub mod Log
@@ -8,6 +10,7 @@ pub mod Open
 pub mod Shape
 pub mod Take
 pub mod Order
+pub mod At
 pub mod Judged
 pub mod Slide
 pub mod Tidy

@@ -1,17 +1,15 @@
--- The order of the available list: every block behind the first with clean pages is erased. Whatever becomes of the next page, the order holds;
--- what the page gives comes last in the scan, and one clean page is gone if it is no longer erased.
+-- The order of the available list on one plane: every block behind the first with clean pages is erased. Whatever becomes of the next page, the order holds,
+-- and what the page gives comes last in the scan.
 use mathlib.Core.Path.{_≡_, refl, sym, ap, _∙_, subst}
 use mathlib.Core.Logic.{inl, inr, _≢_}
-use mathlib.Core.Bool.{false}
-use Prim.Native.Nat.{ℕ, suc, _+_, _*_, _≤_, _<_}
+use Prim.Native.Nat.{ℕ, _+_, _*_, _≤_, _<_}
 use native.Mathlib.Omega.{arith}
 use mathlib.Core.List.{List, [], _∷_, _++_}
-use Rattle.model.specs.Page.{blankAt}
 use Rattle.model.specs.Zones.{entryAt, usedIn, cleanIn, nextIn, scanIn}
 use Rattle.arrays.specs.Tests.{Is, eqb-cases}
 use Rattle.arrays.specs.Pages.{Other, SamePages, other-block}
 use Rattle.arrays.specs.Used.{used-in-same}
-use Rattle.arrays.specs.Scan.{Each, each-map, each-append, SameBlocks, Blank, scan-next, clean-next, blank-stays, Next, next-is}
+use Rattle.arrays.specs.Scan.{Each, each-map, each-append, SameBlocks, Blank, scan-next, blank-stays, Next, next-is}
 use Rattle.scanlog.specs.Sublist.{Sublist, nil, skip, both}
 use Rattle.scanlog.specs.Occ.{occ, occ-nil, occ-cons, occ-yes, occ-no, occ-append, Distinct}
 
@@ -98,7 +96,14 @@ module _ (xs ys : List ℕ) (p : ℕ) (bs : List ℕ) (d : Distinct bs) (clean :
   next-others cs h = same-others cs (is-each (λ (c : ℕ). c ≢ n .block) cs (λ c k q. absurd (omega (arith, h c k, among, ap (λ (x : ℕ). occ x bs) q))))
     where
       among : 0 < occ (n .block) bs
-      among = omega (arith, ap (occ (n .block)) (n .split), occ-append (n .block) (n .before) (n .block ∷ n .behind), occ-cons (n .block) (n .block) (n .behind), occ-yes (n .block) (n .block) refl)
+      among =
+          omega (
+            arith,
+            ap (occ (n .block)) (n .split),
+            occ-append (n .block) (n .before) (n .block ∷ n .behind),
+            occ-cons (n .block) (n .block) (n .behind),
+            occ-yes (n .block) (n .block) refl,
+          )
 
   module _ (r : Order xs p bs) where
     behind-blank : Blank xs p (n .behind)
@@ -116,13 +121,8 @@ module _ (xs ys : List ℕ) (p : ℕ) (bs : List ℕ) (d : Distinct bs) (clean :
     pub order-next : Order ys p bs
     order-next =
         let full : Each (λ (c : ℕ). usedIn ys p c ≡ p) (n .before)
-        = is-each (λ (c : ℕ). usedIn ys p c ≡ p) (n .before) (λ c k. used-in-same xs ys p c (each-is (λ (c : ℕ). SamePages xs ys (c * p) p) (n .before) (same-others (n .before) away-before) c k)
+        = is-each (λ (c : ℕ). usedIn ys p c ≡ p) (n .before)
+        (λ c k. used-in-same xs ys p c (each-is (λ (c : ℕ). SamePages xs ys (c * p) p) (n .before) (same-others (n .before) away-before) c k)
         ∙ each-is (λ (c : ℕ). usedIn xs p c ≡ p) (n .before) (n .full) c k) in
         subst (Order ys p) (sym (n .split))
         (order-split ys p (n .before) (n .block) (n .behind) full (blank-stays xs ys p (n .behind) (same-others (n .behind) away-behind) behind-blank))
-
-  -- one clean page less
-  pub order-clean : blankAt ys (nextIn xs p bs) ≡ false → cleanIn xs p bs ≡ suc (cleanIn ys p bs)
-  order-clean e =
-      subst (λ (l : List ℕ). cleanIn xs p l ≡ suc (cleanIn ys p l)) (sym (n .split))
-      (clean-next xs ys p (n .before) (n .block) (n .behind) (n .room) here away-before away-behind (subst (λ (k : ℕ). blankAt ys k ≡ false) (n .page) e))

@@ -1,23 +1,27 @@
--- What a checkpoint moves: every block with a page of an active transaction stays listed, what stays keeps its order, and nothing new is scanned;
--- the zones stay in shape.
-use mathlib.Core.Path.{_≡_, refl, sym, ap, _∙_}
+-- What a checkpoint moves: every block with a page of an active transaction stays listed, and nothing new is scanned; what stays scanned keeps its order on one
+-- plane, and on two is a part in another order. The zones stay in shape.
+use mathlib.Core.Path.{_≡_, refl, sym, ap, _∙_, subst}
 use mathlib.Core.Logic.{_≢_}
 use mathlib.Core.Bool.{true, not}
-use Prim.Native.Nat.{ℕ, _+_, _≤_, _<_}
+use Prim.Native.Nat.{ℕ, _+_, _*_, _≤_, _<_}
 use native.Mathlib.Omega.{arith}
-use mathlib.Core.List.{List, _++_, append-nil, append-assoc}
+use mathlib.Core.List.{List, [], _∷_, _++_, append-nil, append-assoc}
 use lib.ListN.{length, length-append, length-take}
 use lib.Dec.{eqb}
 use borrow.Author.Tests.{eqb-false, not-true}
 use Rattle.model.specs.Recovery.{ofId}
-use Rattle.model.specs.Zones.{Entry, usedIn, isFull, scanIn, scanOf, availableOf, unavailableOf, freeOf, zonesOf, zonesOk, active, staying, leaving, holdsWanted, judged, Taken, refill, zonesTaken, slide}
+use Rattle.model.specs.Lists.{those}
+use Rattle.model.specs.Zones.{Entry, wholeFrom, usedIn, isFull, scanIn, scanOf, availableOf, unavailableOf, freeOf, zonesOf, zonesOk}
+use Rattle.model.specs.Zones.{active, staying, leaving, holdsWanted, judged, Taken, refill, zonesTaken, slide}
 use Rattle.model.specs.declared.Geometry.{Geometry}
 use Rattle.model.specs.declared.Zones.{Zones}
 use Rattle.model.specs.declared.Place.{Place}
 use Rattle.arrays.specs.Tests.{and-left}
-use Rattle.arrays.specs.Scan.{Blank, scan-append, scan-blank}
+use Rattle.arrays.specs.Scan.{Blank, scan-cons, scan-append, scan-blank}
 use Rattle.arrays.specs.ZoneLists.{zonesOf-available, zonesOf-unavailable, zonesOf-free, zonesOf-ok}
 use Rattle.scanlog.specs.Sublist.{Sublist, sub-refl, sub-append, sub-those, sub-length}
+use Rattle.scanlog.specs.Perm.{Perm, empty, put, perm-refl, perm-append, perm-those, perm-split}
+use Rattle.arrays.specs.Insert.{Insert, here, there, insert-middle}
 use Rattle.scanlog.specs.Occ.{occ, occ-append, occ-sub, split-occ, split-length}
 use Rattle.scanlog.specs.Rising.{rising-sub}
 use Rattle.scanlog.specs.Log.{ofId-append}
@@ -25,6 +29,39 @@ use Rattle.scanlog.specs.Shape.{Shape, shape, shape-ok, listed-block}
 use Rattle.scanlog.specs.Take.{Took, took-refill}
 use Rattle.scanlog.specs.Order.{Order, each-sub, each-is, is-each, order-sub, order-append}
 use Rattle.scanlog.specs.Judged.{scan-sub, order-leave, Wanted, judged-ofId}
+
+-- ---- blocks in another order
+-- what is scanned before and after a block that is put in
+record Around (xs : List ℕ) (p b : ℕ) (bs cs : List ℕ) : Type 0 where
+  before : List Entry
+  behind : List Entry
+  was : scanIn xs p bs ≡ before ++ behind
+  is : scanIn xs p cs ≡ before ++ (wholeFrom xs (b * p) p ++ behind)
+
+block-in : (xs : List ℕ) (p b : ℕ) {bs cs : List ℕ} → Insert b bs cs → Around xs p b bs cs
+block-in xs p b (here bs) = record { before = []; behind = scanIn xs p bs; was = refl; is = scan-cons xs p b bs }
+block-in xs p b (there {xs = bs} {ys = cs} c i) =
+    let r = block-in xs p b i in
+    let w = wholeFrom xs (c * p) p in
+    record {
+      before = w ++ r .before;
+      behind = r .behind;
+      was = scan-cons xs p c bs ∙ rw (r .was) (sym (append-assoc w (r .before) (r .behind)));
+      is = scan-cons xs p c cs ∙ rw (r .is) (sym (append-assoc w (r .before) (wholeFrom xs (b * p) p ++ r .behind)));
+    }
+
+perm-front : (ws ds bs : List Entry) {us : List Entry} → Perm us (ds ++ bs) → Perm (ws ++ us) (ds ++ (ws ++ bs))
+perm-front [] ds bs q = q
+perm-front (w ∷ ws) ds bs q = put w (perm-front ws ds bs q) (insert-middle w ds (ws ++ bs))
+
+scan-perm : (xs : List ℕ) (p : ℕ) {bs cs : List ℕ} → Perm bs cs → Perm (scanIn xs p bs) (scanIn xs p cs)
+scan-perm xs p empty = perm-refl (scanIn xs p [])
+scan-perm xs p (put {xs = bs} {ys = ds} {zs = cs} b q i) =
+    let r = block-in xs p b i in
+    let w = wholeFrom xs (b * p) p in
+    let k : Perm (scanIn xs p bs) (r .before ++ r .behind) = subst (Perm (scanIn xs p bs)) (r .was) (scan-perm xs p q) in
+    subst (λ (l : List Entry). Perm l (scanIn xs p cs)) (sym (scan-cons xs p b bs))
+    (subst (Perm (w ++ scanIn xs p bs)) (sym (r .is)) (perm-front w (r .before) (r .behind) k))
 
 module _ (g : Geometry) (xs : List ℕ) (ps : List Place) (z : Zones) where
   -- those still available
@@ -157,6 +194,47 @@ module _ (g : Geometry) (xs : List ℕ) (ps : List Place) (z : Zones) where
         (scan-append xs p kept (stay ++ fresh)
         ∙ ap (λ (l : List Entry). scanIn xs p kept ++ l) (scan-append xs p stay fresh ∙ rw (scan-blank xs p fresh fresh-blank) (append-nil (scanIn xs p stay))))
 
+    -- the scan before, its available blocks in another order: those that leave, then those that stay
+    scan-split : Perm (scanOf xs (g .pages) z) (scanIn xs (g .pages) others ++ near)
+    unfolding scanOf near others stay staying leaving
+    scan-split =
+        let p = g .pages in
+        let a = availableOf z in
+        let u = unavailableOf z in
+        let q : Perm (scanIn xs p u ++ scanIn xs p a) (scanIn xs p u ++ scanIn xs p (those (isFull xs p) a ++ those (λ (b : ℕ). not (isFull xs p b)) a))
+        = perm-append (perm-refl (scanIn xs p u)) (scan-perm xs p (perm-split (isFull xs p) a)) in
+        let e : scanIn xs p u ++ scanIn xs p (those (isFull xs p) a ++ those (λ (b : ℕ). not (isFull xs p b)) a)
+        ≡ scanIn xs p (u ++ those (isFull xs p) a) ++ scanIn xs p (those (λ (b : ℕ). not (isFull xs p b)) a)
+        = rw (scan-append xs p (those (isFull xs p) a) (those (λ (b : ℕ). not (isFull xs p b)) a), scan-append xs p u (those (isFull xs p) a))
+        (sym (append-assoc (scanIn xs p u) (scanIn xs p (those (isFull xs p) a)) (scanIn xs p (those (λ (b : ℕ). not (isFull xs p b)) a)))) in
+        subst (λ (l : List Entry). Perm l (scanIn xs p (u ++ those (isFull xs p) a) ++ scanIn xs p (those (λ (b : ℕ). not (isFull xs p b)) a)))
+        (sym (scan-append xs p u a)) (subst (Perm (scanIn xs p u ++ scanIn xs p a)) e q)
+
+    -- nothing new is scanned
+    pub slide-part : Sublist (scanOf xs (g .pages) (slide g xs ps z)) (scanIn xs (g .pages) others ++ near)
+    unfolding kept judged
+    slide-part = rw slide-scan (sub-append (scan-sub xs (g .pages) (sub-those (holdsWanted xs (g .pages) ps near) others)) (sub-refl near))
+
+    pub slide-perm : Perm (scanOf xs (g .pages) z) (scanIn xs (g .pages) others ++ near)
+    slide-perm = scan-split
+
+    -- what is wanted is scanned as before
+    slide-wanted : (id : ℕ) → Wanted ps near id → ofId id (scanOf xs (g .pages) (slide g xs ps z)) ≡ ofId id (scanIn xs (g .pages) others ++ near)
+    unfolding kept
+    slide-wanted id w =
+        let p = g .pages in
+        rw slide-scan (ofId-append id (scanIn xs p kept) near ∙ rw (judged-ofId ps near id w xs p others) (sym (ofId-append id (scanIn xs p others) near)))
+
+    nonzero : (id : ℕ) → active id ps ≡ true → id ≢ 0
+    nonzero id e = unfold active in eqb-false id 0 (not-true (eqb id 0) (and-left (not (eqb id 0)) _ e))
+
+    -- the entries of an active transaction all stay
+    pub slide-active-perm : (id : ℕ) → active id ps ≡ true → Perm (ofId id (scanOf xs (g .pages) z)) (ofId id (scanOf xs (g .pages) (slide g xs ps z)))
+    unfolding ofId
+    slide-active-perm id e =
+        subst (Perm (those (λ (x : Entry). eqb (x .id) id) (scanOf xs (g .pages) z))) (sym (slide-wanted id (nonzero id e, rw e)))
+        (perm-those (λ (x : Entry). eqb (x .id) id) scan-split)
+
     module _ (order : Order xs (g .pages) (availableOf z)) where
       -- the new available list is in order
       pub slide-order : Order xs (g .pages) (availableOf (slide g xs ps z))
@@ -176,20 +254,9 @@ module _ (g : Geometry) (xs : List ℕ) (ps : List Place) (z : Zones) where
             = sym (append-assoc u (leaving xs p a) (staying xs p a) ∙ ap (λ (t : List ℕ). u ++ t) (order-leave xs p a some order)) in
             ap (scanIn xs p) e ∙ scan-append xs p (u ++ leaving xs p a) (staying xs p a)
 
-        -- nothing new is scanned, and what is scanned keeps its order
+        -- what is scanned keeps its order
         pub slide-sub : Sublist (scanOf xs (g .pages) (slide g xs ps z)) (scanOf xs (g .pages) z)
-        unfolding kept judged
-        slide-sub = rw (slide-scan, scan-before) (sub-append (scan-sub xs (g .pages) (sub-those (holdsWanted xs (g .pages) ps near) others)) (sub-refl near))
-
-        -- what is wanted is scanned as before
-        slide-ofId : (id : ℕ) → Wanted ps near id → ofId id (scanOf xs (g .pages) (slide g xs ps z)) ≡ ofId id (scanOf xs (g .pages) z)
-        unfolding kept
-        slide-ofId id w =
-            let p = g .pages in
-            rw (slide-scan, scan-before) (ofId-append id (scanIn xs p kept) near ∙ rw (judged-ofId ps near id w xs p others) (sym (ofId-append id (scanIn xs p others) near)))
+        slide-sub = rw scan-before slide-part
 
         pub slide-active : (id : ℕ) → active id ps ≡ true → ofId id (scanOf xs (g .pages) (slide g xs ps z)) ≡ ofId id (scanOf xs (g .pages) z)
-        slide-active id e = slide-ofId id (nonzero, rw e)
-          where
-            nonzero : id ≢ 0
-            nonzero = unfold active in eqb-false id 0 (not-true (eqb id 0) (and-left (not (eqb id 0)) _ e))
+        slide-active id e = slide-wanted id (nonzero id e, rw e) ∙ ap (ofId id) (sym scan-before)

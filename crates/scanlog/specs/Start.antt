@@ -67,7 +67,8 @@ module _ (g : Geometry) (big : 2 < g .blocks) where
     pub tidy-format : Tidy g xs (formatZones g)
     tidy-format = record {
       ok = format-ok;
-      order = rw (format-is, zonesOf-available (last .available) [] (last .free) (last .pointer)) (blank-order xs (g .pages) (last .available) blank-available);
+      order = λ one. rw (format-is, zonesOf-available (last .available) [] (last .free) (last .pointer))
+          (blank-order xs (g .pages) (last .available) blank-available);
       blank = rw (format-is, zonesOf-free (last .available) [] (last .free) (last .pointer))
           (is-each (λ (c : ℕ). usedIn xs (g .pages) c ≡ 0) (last .free) (λ c h. erased c (first-block c (omega (arith, each c)))));
     }
@@ -75,5 +76,9 @@ module _ (g : Geometry) (big : 2 < g .blocks) where
     pub scan-format : scanOf xs (g .pages) (formatZones g) ≡ []
     unfolding scanOf
     scan-format =
-        rw (format-is, zonesOf-available (last .available) [] (last .free) (last .pointer), zonesOf-unavailable (last .available) [] (last .free) (last .pointer))
+        rw (
+          format-is,
+          zonesOf-available (last .available) [] (last .free) (last .pointer),
+          zonesOf-unavailable (last .available) [] (last .free) (last .pointer),
+        )
         (scan-blank xs (g .pages) (last .available) blank-available)

@@ -41,7 +41,8 @@ module _ (xs map hold : List ℕ) (ps : List Place) (b : Book) (id i : ℕ) (f :
     closed = λ x n k. closed-at x n k (eqb-cases x id);
   }
     where
-      writes-at : (j : ℕ) → j < 8 → placeAt (set ps i freePlace) j .id ≢ 0 → Is j i → Writes xs map hold j (placeAt (set ps i freePlace) j) (writesOf (placeAt (set ps i freePlace) j .id) (b′ .changes))
+      writes-at : (j : ℕ) → j < 8 → placeAt (set ps i freePlace) j .id ≢ 0 → Is j i
+          → Writes xs map hold j (placeAt (set ps i freePlace) j) (writesOf (placeAt (set ps i freePlace) j .id) (b′ .changes))
       writes-at j l z (inl q) = absurd (z (at-own j (q .0)))
       writes-at j l z (inr q) =
           let n : placeAt ps j .id ≢ 0 = rw (at-other j (q .0)) at z in
@@ -62,7 +63,8 @@ module _ (xs map hold : List ℕ) (ps : List Place) (b : Book) (id i : ℕ) (f :
           other j l (inr r) = rw (at-other j (r .0)) at (k j l)
 
 -- the identifier of place i is in no other place
-pub found-apart : (w : World) (b : Book) (id i : ℕ) → Live w b → Found (w .state .places) id i → (j : ℕ) → j < length (w .state .places) → j ≢ i → placeAt (w .state .places) j .id ≢ id
+pub found-apart : (w : World) (b : Book) (id i : ℕ) → Live w b → Found (w .state .places) id i → (j : ℕ) → j < length (w .state .places) → j ≢ i
+    → placeAt (w .state .places) j .id ≢ id
 found-apart w b id i h f j l n =
     let z : placeAt (w .state .places) i .id ≢ 0 = λ q. f .some (sym (f .is) ∙ q) in
     λ e. h .places .apart i j (f .low) l (λ q. n (sym q)) z (e ∙ sym (f .is))
@@ -72,7 +74,7 @@ pub forget-live : (w : World) (b b′ : Book) (id i : ℕ) → Live w b → isId
     → b′ .pages ≡ b .pages → b′ .changes ≡ close id (b .changes) → Live (placed w i freePlace) b′
 forget-live w b b′ id i h idle f p e = live-place w b b′ i freePlace h idle p
     (places-set (w .state .geometry) (w .state .places) i freePlace (h .places) (free-ok (w .state .geometry)) (λ z. absurd (z refl)))
-    (opens-set (w .state .places) (scanned w) (scanned w) i freePlace (h .opens) (λ z. absurd (z refl)) (λ j l n z. refl))
+    (opens-set (w .state .geometry) (w .state .places) (scanned w) (scanned w) i freePlace (h .opens) (λ z. absurd (z refl)) (λ j l n z. refl))
     (changing-close (w .array) (w .map) (w .hold) (w .state .places) b id i f (h .changing) (found-apart w b id i h f) b′ e)
 
 -- ---- abort

@@ -34,7 +34,7 @@ placed w i p = record { array = w .array; map = w .map; hold = w .hold; state = 
 
 -- places, entries and open changes agree again
 pub live-place : (w : World) (b b′ : Book) (i : ℕ) (p : Place) → Live w b → isIdle (w .state .work) ≡ true → b′ .pages ≡ b .pages
-    → PlacesGood (w .state .geometry) (set (w .state .places) i p) → Opens (set (w .state .places) i p) (scanned w)
+    → PlacesGood (w .state .geometry) (set (w .state .places) i p) → Opens (w .state .geometry) (set (w .state .places) i p) (scanned w)
     → Changing (w .array) (w .map) (w .hold) (set (w .state .places) i p) b′ → Live (placed w i p) b′
 unfolding withPlace
 live-place w b b′ i p h idle e good opens changing = record {
@@ -67,8 +67,8 @@ begin-view id w =
     view-test w (Begins w id) (leb 8 (find (hasId 0) (w .state .places))) 9 _ refl (λ d.
     yes _ (record { idle = idle-only (isIdle (w .state .work)) i; name = a; fresh = c; room = d; is = refl })))))
 
-module _ (w : World) (b : Book) (id : ℕ) (h : Live w b) (small : id < 4294967296) (idle : isIdle (w .state .work) ≡ true) (name : badId id ≡ false) (fresh : liveId id w ≡ false)
-    (room : leb 8 (find (hasId 0) (w .state .places)) ≡ false) where
+module _ (w : World) (b : Book) (id : ℕ) (h : Live w b) (small : id < 4294967296) (idle : isIdle (w .state .work) ≡ true) (name : badId id ≡ false)
+    (fresh : liveId id w ≡ false) (room : leb 8 (find (hasId 0) (w .state .places)) ≡ false) where
   -- the places, and the lowest free one
   abbrev ps : List Place
   ps = w .state .places
@@ -106,7 +106,8 @@ module _ (w : World) (b : Book) (id : ℕ) (h : Live w b) (small : id < 42949672
 
   writes-at : (j : ℕ) → j < 8 → Is j slot → placeAt (set ps slot (begun id)) j .id ≢ 0
       → Writes (w .array) (w .map) (w .hold) j (placeAt (set ps slot (begun id)) j) (writesOf (placeAt (set ps slot (begun id)) j .id) (after .changes))
-  writes-at j l (inl q) z = rw (q .0, at-own) (unfold begun in rw (begin-own id (b .changes) closed-before) (writes-begun (w .array) (w .map) (w .hold) slot id small))
+  writes-at j l (inl q) z =
+      rw (q .0, at-own) (unfold begun in rw (begin-own id (b .changes) closed-before) (writes-begun (w .array) (w .map) (w .hold) slot id small))
   writes-at j l (inr q) z =
       let n : placeAt ps j .id ≢ 0 = rw (at-other j (q .0)) at z in
       rw (at-other j (q .0), begin-other id (placeAt ps j .id) (b .changes) (unused j (omega (arith, h .changing .eight)))) (h .changing .writes j l n)
@@ -135,7 +136,8 @@ module _ (w : World) (b : Book) (id : ℕ) (h : Live w b) (small : id < 42949672
   begin-live : Live (placed w slot (begun id)) after
   begin-live = live-place w b after slot (begun id) h idle refl
       (places-set (w .state .geometry) ps slot (begun id) (h .places) (begun-ok (w .state .geometry) id name) (λ z j l n. unfold begun in unused j l))
-      (opens-set ps (scanned w) (scanned w) slot (begun id) (h .opens) (λ z. open-begun id (scanned w) off) (λ j l n z. refl))
+      (opens-set (w .state .geometry) ps (scanned w) (scanned w) slot (begun id) (h .opens) (λ z. open-begun (w .state .geometry) id (scanned w) off)
+      (λ j l n z. refl))
       (record {
         eight = length-set ps slot (begun id) ∙ h .changing .eight;
         writes = λ j l. writes-at j l (eqb-cases j slot);

@@ -1,13 +1,14 @@
 -- What documents 01 and 02 (docs/PAPERS.md) claim beside demand 3, of the worlds of a sequence, each sentence as a theorem.
 use mathlib.Core.Path.{_≡_, refl, sym, _∙_, subst}
+use mathlib.Core.Logic.{_⊎_, inl, inr, _≢_}
 use mathlib.Core.Bool.{true, false, false≢true, _&&_}
 use Prim.Native.Nat.{ℕ, _<_}
 use native.Mathlib.Omega.{arith}
 use mathlib.Core.List.{List, [], _∷_, _++_}
-use lib.Dec.{ltb}
+use lib.Dec.{eqb, ltb}
 use lib.IntN.{ℤ, pos}
 use lib.Signed.{_≤ℤ_}
-use borrow.Author.Tests.{lt-ltb}
+use borrow.Author.Tests.{lt-ltb, eqb-true}
 use Rattle.model.specs.Page.{classOf, spareOf, pageAt}
 use Rattle.model.specs.Geometry.{geometryOk, dataPage}
 use Rattle.model.specs.Zones.{entryOf}
@@ -18,12 +19,13 @@ use Rattle.model.specs.Transactions.{readAnswer}
 use Rattle.model.specs.Strides.{isCheckpoint, isReclaim, picked, planFormat}
 use Rattle.model.specs.Commands.{Call, format, recover, begin, write, dropPage, lone, commit, abort, read, checkpoint, reclaim, plan, carried, exec}
 use Rattle.model.specs.Book.{Book, Event, called, cutIn, cutBetween, blank, tell, story, pageOf, contentAnswer}
-use Rattle.model.specs.Sequence.{fits, Phase, live, dark, arrayOf, Allowed, isRecovery, cutEvent, cutArray, Step, call, cut, between, back, failed, lost, again, Run, stop, next, Formatted}
+use Rattle.model.specs.Sequence.{fits, Running, Phase, live, dark, arrayOf, runsAfter, Allowed, isRecovery, cutEvent, cutArray, earlyEvent, earlyArray}
+use Rattle.model.specs.Sequence.{Step, call, cut, early, between, back, failed, lost, again, Run, stop, next, Formatted}
 use Rattle.model.specs.Torn.{OwnTorn}
 use Rattle.model.specs.declared.Geometry.{Geometry}
 use Rattle.model.specs.declared.Class.the-variants.{Torn}
 use Rattle.model.specs.declared.Work.{Work}
-use Rattle.arrays.specs.Tests.{and-both}
+use Rattle.arrays.specs.Tests.{and-both, or-cases}
 use Rattle.arrays.specs.Ranges.{geometry-in}
 use Rattle.arrays.specs.Bytelist.{Bytes, true-bytes}
 use Rattle.arrays.specs.Arrays.{Leans}
@@ -32,7 +34,8 @@ use Rattle.scanlog.specs.Sublist.{Sublist}
 use Rattle.sequence.specs.Live.{live-reads, scanned}
 use Rattle.sequence.specs.Start.{formatted-idle, some-formatted}
 use Rattle.sequence.specs.ScanOrder.{added, ScannedLast, InOrder, call-orders}
-use Rattle.sequence.specs.UnderWay.{another, GoesOn, More, busy-same, checkpoint-not-refused, reclaim-not-refused, goes-call, goes-recovered, copy-picks-same, checkpoint-more, reclaim-more}
+use Rattle.sequence.specs.UnderWay.{another, GoesOn, More, busy-same, checkpoint-not-refused, reclaim-not-refused, goes-call, goes-recovered}
+use Rattle.sequence.specs.UnderWay.{copy-picks-same, checkpoint-more, reclaim-more}
 use Rattle.sequence.specs.Theorem.{LiveAt, Holds, step-holds, run-holds, start-holds}
 
 -- ---- the worlds of a sequence
@@ -40,25 +43,30 @@ use Rattle.sequence.specs.Theorem.{LiveAt, Holds, step-holds, run-holds,
 pub record Leads (g : Geometry) (es : List Event) (p : Phase) : Type 0 where
   pub start : World
   pub formatted : Formatted g start
-  pub run : Run g (live start) es p
+  pub run : Run g (live start []) es p
 
--- to world w, whose state is not lost
-abbrev pub InSequence : Geometry → List Event → World → Type 0
-InSequence g es w = Leads g es (live w)
+-- to world w, whose state is not lost, with these pages running
+abbrev pub InSequence : Geometry → List Event → World → List Running → Type 0
+InSequence g es w rs = Leads g es (live w rs)
 
 -- numbers of 16 bits
 abbrev InShape : Geometry → Type 0
-InShape g = (g .blocks < 65536) × ((g .pages < 65536) × (g .logical < 65536))
+InShape g = (g .blocks < 65536) × ((g .pages < 65536) × ((g .logical < 65536) × (g .planes < 65536)))
+
+few-planes : (n : ℕ) → (eqb n 1 ≡ true) ⊎ (eqb n 2 ≡ true) → n < 65536
+few-planes n (inl e) = omega (arith, eqb-true n 1 e)
+few-planes n (inr e) = omega (arith, eqb-true n 2 e)
 
 -- where a reclaim is under way it can go on to its end
 abbrev Goes : Phase → Type 0
-Goes (live w) = GoesOn w
+Goes (live w rs) = GoesOn w
 Goes (dark xs) = Unit {0}
 
 goes-step : (g : Geometry) (b : Book) (p : Phase) (e : Event) (q : Phase) → Step g p e q → Holds g b p → Goes p → Goes q
-goes-step g b p e q (call c w f a) h on = goes-call g c w b a (h .world) on
-goes-step g b p e q (cut c w lets f a) h on = tt
-goes-step g b p e q (between w) h on = tt
+goes-step g b p e q (call c w rs f a) h on = goes-call g c w b a (h .here .world) on
+goes-step g b p e q (cut c w rs lets parts f a) h on = tt
+goes-step g b p e q (early c w rs parts f a) h on = tt
+goes-step g b p e q (between w rs parts) h on = tt
 goes-step g b p e q (back w r) h on = goes-recovered g w r
 goes-step g b p e q (failed c w i f a r) h on = tt
 goes-step g b p e q (lost c w i f a) h on = tt
@@ -71,30 +79,37 @@ goes-run g b p es q (next {q = r} {e = e} {es = fs} s t) h on = goes-run g (tell
 start-goes : (g : Geometry) (w : World) → Formatted g w → GoesOn w
 start-goes g w f i = absurd (false≢true (subst (λ (k : Work). isReclaim k ≡ true) (formatted-idle g w f) i))
 
-module _ (g : Geometry) (es : List Event) (w : World) (s : InSequence g es w) where
+module _ (g : Geometry) (es : List Event) (w : World) (rs : List Running) (s : InSequence g es w rs) where
   -- they are live, with the book of what happened
   pub sequence-live : LiveAt g w (story (blank g) es)
-  sequence-live = run-holds g (blank g) (live (s .start)) es (live w) (s .run) (start-holds g (s .start) (s .formatted))
+  sequence-live = run-holds g (blank g) (live (s .start) []) es (live w rs) (s .run) (start-holds g (s .start) (s .formatted)) .here
 
   in-shape : InShape g
-  in-shape = let h = geometry-in g (subst (λ (h : Geometry). geometryOk h ≡ true) (sequence-live .shape) (sequence-live .world .sound .geometry)) in
-      (omega (arith, h .blocks-most), (omega (arith, h .pages-most), omega (arith, h .logical-most)))
+  in-shape =
+      let h = geometry-in g (subst (λ (h : Geometry). geometryOk h ≡ true) (sequence-live .shape) (sequence-live .world .sound .geometry)) in
+      let few = few-planes (g .planes) (or-cases (eqb (g .planes) 1) _ (h .planes)) in
+      (omega (arith, h .blocks-most), (omega (arith, h .pages-most), (omega (arith, h .logical-most), few)))
 
   goes : GoesOn w
-  goes = goes-run g (blank g) (live (s .start)) es (live w) (s .run) (start-holds g (s .start) (s .formatted)) (start-goes g (s .start) (s .formatted))
+  goes = goes-run g (blank g) (live (s .start) []) es (live w rs) (s .run) (start-holds g (s .start) (s .formatted)) (start-goes g (s .start) (s .formatted))
 
-  -- ---- "in scan order, which on a layer's own array is write order"
-  module _ (c : Call) (f : fits c ≡ true) (a : Allowed g c w) where
+  -- ---- "in scan order, which on a layer's own array is write order", on one plane
+  module _ (one : g .planes ≡ 1) (c : Call) (f : fits c ≡ true) (a : Allowed g c w) where
+    not-two : w .state .geometry .planes ≢ 2
+    not-two = rw (sequence-live .shape) (λ q. absurd (omega (arith, one, q)))
+
     ordered : InOrder w (plan c w .op) (exec c w .world)
-    ordered = call-orders w (story (blank g) es) (sequence-live .world) c f (subst (λ (h : Geometry). Allowed h c w) (sym (sequence-live .shape)) a)
+    ordered = call-orders w (story (blank g) es) (sequence-live .world) not-two c f (subst (λ (h : Geometry). Allowed h c w) (sym (sequence-live .shape)) a)
 
     -- the data page that a call programs is scanned after all others
-    pub scan-order-is-write-order : (k : ℕ) (new : List ℕ) → plan c w .op ≡ program k new → dataPage g k ≡ true → scanned (exec c w .world) ≡ scanned w ++ (entryOf k (spareOf new) ∷ [])
+    pub scan-order-is-write-order : (k : ℕ) (new : List ℕ) → plan c w .op ≡ program k new → dataPage g k ≡ true
+        → scanned (exec c w .world) ≡ scanned w ++ (entryOf k (spareOf new) ∷ [])
     scan-order-is-write-order k new e d = subst (λ (o : Op). ScannedLast w o (exec c w .world)) e (ordered .last) (rw (sequence-live .shape) d)
 
     -- and no call changes the order of those that stay scanned
     pub scan-keeps-order : Sublist (scanned (exec c w .world)) (scanned w ++ added g (plan c w .op))
-    scan-keeps-order = subst (λ (h : Geometry). Sublist (scanned (exec c w .world)) (scanned w ++ added h (plan c w .op))) (sequence-live .shape) (ordered .rest)
+    scan-keeps-order =
+        subst (λ (h : Geometry). Sublist (scanned (exec c w .world)) (scanned w ++ added h (plan c w .op))) (sequence-live .shape) (ordered .rest)
 
   -- ---- "in a sequence only the first can refuse"
   -- the strides after the first, as the work under way tells
@@ -157,8 +172,10 @@ Admitted (read lpn) = lpn < 65536
 Admitted checkpoint = Unit {0}
 Admitted reclaim = Unit {0}
 
-shape-fits : (g : Geometry) → InShape g → (ltb (g .blocks) 65536 && (ltb (g .pages) 65536 && ltb (g .logical) 65536)) ≡ true
-shape-fits g h = and-both (ltb (g .blocks) 65536) _ (lt-ltb _ _ (h .0)) (and-both (ltb (g .pages) 65536) _ (lt-ltb _ _ (h .1 .0)) (lt-ltb _ _ (h .1 .1)))
+shape-fits : (g : Geometry) → InShape g → (ltb (g .blocks) 65536 && (ltb (g .pages) 65536 && (ltb (g .logical) 65536 && ltb (g .planes) 65536))) ≡ true
+shape-fits g h =
+    and-both (ltb (g .blocks) 65536) _ (lt-ltb _ _ (h .0)) (and-both (ltb (g .pages) 65536) _ (lt-ltb _ _ (h .1 .0))
+    (and-both (ltb (g .logical) 65536) _ (lt-ltb _ _ (h .1 .1 .0)) (lt-ltb _ _ (h .1 .1 .1))))
 
 -- every call with such arguments fits
 pub any-fits : (c : Call) → Admitted c → fits c ≡ true
@@ -182,22 +199,28 @@ run-then (next t u) s = next t (run-then u s)
 leads-then : {g : Geometry} {es : List Event} {e : Event} {p q : Phase} → Leads g es p → Step g p e q → Leads g (es ++ (e ∷ [])) q
 leads-then l s = record { start = l .start; formatted = l .formatted; run = run-then (l .run) s }
 
--- in every world of a sequence each of these calls may follow, answered whatever it answers, and may be cut at any bits
-pub record Follows (g : Geometry) (es : List Event) (c : Call) (w : World) : Type 0 where
-  pub answered : InSequence g (es ++ (called c (exec c w .answer) ∷ [])) (exec c w .world)
-  pub cut-off : (lets : List ℕ) → Leads g (es ++ (cutEvent c w lets ∷ [])) (dark (cutArray c w lets))
+-- in every world of a sequence each of these calls may follow, answered whatever it answers, and may be cut at any bits of what it does and of what runs, or
+-- before it does anything
+pub record Follows (g : Geometry) (es : List Event) (c : Call) (w : World) (rs : List Running) : Type 0 where
+  pub answered : InSequence g (es ++ (called c (exec c w .answer) ∷ [])) (exec c w .world) (runsAfter c w rs)
+  pub cut-off : (lets : List ℕ) (parts : ℕ → List ℕ) → Leads g (es ++ (cutEvent c w rs lets parts ∷ [])) (dark (cutArray c w rs lets parts))
+  pub cut-early : (parts : ℕ → List ℕ) → Leads g (es ++ (earlyEvent c w ∷ [])) (dark (earlyArray w rs parts))
 
-module _ (g : Geometry) (es : List Event) (w : World) (s : InSequence g es w) where
-  follows : (c : Call) → fits c ≡ true → Allowed g c w → Follows g es c w
-  follows c f a = record { answered = leads-then s (call c w f a); cut-off = λ lets. leads-then s (cut c w lets f a) }
+module _ (g : Geometry) (es : List Event) (w : World) (rs : List Running) (s : InSequence g es w rs) where
+  follows : (c : Call) → fits c ≡ true → Allowed g c w → Follows g es c w rs
+  follows c f a = record {
+    answered = leads-then s (call c w rs f a);
+    cut-off = λ lets parts. leads-then s (cut c w rs lets parts f a);
+    cut-early = λ parts. leads-then s (early c w rs parts f a);
+  }
 
-  pub call-follows : (c : Call) → isRecovery c ≡ false → Admitted c → Follows g es c w
+  pub call-follows : (c : Call) → isRecovery c ≡ false → Admitted c → Follows g es c w rs
   call-follows c i h = follows c (any-fits c h) (any-call g c w i)
 
-  pub recover-follows : Follows g es (recover g) w
-  recover-follows = follows (recover g) (any-fits (recover g) (in-shape g es w s)) (any-recover g w)
+  pub recover-follows : Follows g es (recover g) w rs
+  recover-follows = follows (recover g) (any-fits (recover g) (in-shape g es w rs s)) (any-recover g w)
 
-  pub format-follows : (h : Geometry) → Admitted (format h) → lentOk h w ≡ false → Follows g es (format h) w
+  pub format-follows : (h : Geometry) → Admitted (format h) → lentOk h w ≡ false → Follows g es (format h) w rs
   format-follows h f e = follows (format h) (any-fits (format h) f) (any-refused g h w e)
 
 -- ---- every read within a list of events answers as the book has it then
@@ -226,19 +249,20 @@ unfolding exec plan carried
 read-answers lpn w = refl
 
 step-right : (g : Geometry) (b : Book) (p : Phase) (e : Event) (q : Phase) → Step g p e q → Holds g b p → ReadRight g b e
-step-right g b p e q (call (format h) w f a) s = tt
-step-right g b p e q (call (recover h) w f a) s = tt
-step-right g b p e q (call (begin id) w f a) s = tt
-step-right g b p e q (call (write id lpn d) w f a) s = tt
-step-right g b p e q (call (dropPage id lpn) w f a) s = tt
-step-right g b p e q (call (lone lpn d) w f a) s = tt
-step-right g b p e q (call (commit id) w f a) s = tt
-step-right g b p e q (call (abort id) w f a) s = tt
-step-right g b p e q (call (read lpn) w f a) s = λ l. read-answers lpn w ∙ live-reads w b (s .world) lpn (rw (s .shape) l) .answer
-step-right g b p e q (call checkpoint w f a) s = tt
-step-right g b p e q (call reclaim w f a) s = tt
-step-right g b p e q (cut c w lets f a) s = unfold cutEvent in tt
-step-right g b p e q (between w) s = tt
+step-right g b p e q (call (format h) w rs f a) s = tt
+step-right g b p e q (call (recover h) w rs f a) s = tt
+step-right g b p e q (call (begin id) w rs f a) s = tt
+step-right g b p e q (call (write id lpn d) w rs f a) s = tt
+step-right g b p e q (call (dropPage id lpn) w rs f a) s = tt
+step-right g b p e q (call (lone lpn d) w rs f a) s = tt
+step-right g b p e q (call (commit id) w rs f a) s = tt
+step-right g b p e q (call (abort id) w rs f a) s = tt
+step-right g b p e q (call (read lpn) w rs f a) s = λ l. read-answers lpn w ∙ live-reads w b (s .here .world) lpn (rw (s .here .shape) l) .answer
+step-right g b p e q (call checkpoint w rs f a) s = tt
+step-right g b p e q (call reclaim w rs f a) s = tt
+step-right g b p e q (cut c w rs lets parts f a) s = unfold cutEvent in tt
+step-right g b p e q (early c w rs parts f a) s = unfold earlyEvent in tt
+step-right g b p e q (between w rs parts) s = tt
 step-right g b p e q (back w r) s = tt
 step-right g b p e q (failed c w i f a r) s = not-read c i (exec c w .answer)
   where
@@ -261,21 +285,21 @@ run-right : (g : Geometry) (b : Book) (p : Phase) (es : List Event) (q : Phase) 
 run-right g b p es q (stop p′) h = tt
 run-right g b p es q (next {q = r} {e = e} {es = fs} s t) h = (step-right g b p e r s h, run-right g (tell b e) r fs q t (step-holds g b p e r s h))
 
-pub reads-right : (g : Geometry) (w : World) (es : List Event) (p : Phase) → Formatted g w → Run g (live w) es p → ReadsRight g (blank g) es
-reads-right g w es p f r = run-right g (blank g) (live w) es p r (start-holds g w f)
+pub reads-right : (g : Geometry) (w : World) (es : List Event) (p : Phase) → Formatted g w → Run g (live w []) es p → ReadsRight g (blank g) es
+reads-right g w es p f r = run-right g (blank g) (live w []) es p r (start-holds g w f)
 
 -- ---- "it can be below zero only on pages the layer never wrote"
 -- every page of a phase's array is lean
 phase-leans : (g : Geometry) (b : Book) (p : Phase) → Holds g b p → Leans (arrayOf p)
-phase-leans g b (live w) h = h .world .sound .lean
+phase-leans g b (live w rs) h = h .here .world .sound .lean
 phase-leans g b (dark xs) h = h .sound .lean
 
 pub holds-torn : (g : Geometry) (b : Book) (p : Phase) → Holds g b p → (k : ℕ) (d : ℤ) → classOf (pageAt (arrayOf p) k) ≡ Torn d → pos 1 ≤ℤ d
 holds-torn g b p h k d = lean-torn (pageAt (arrayOf p) k) d (phase-leans g b p h k)
 
 pub own-torn : OwnTorn
-own-torn g w es p f r = holds-torn g (story (blank g) es) p (run-holds g (blank g) (live w) es p r (start-holds g w f))
+own-torn g w es p f r = holds-torn g (story (blank g) es) p (run-holds g (blank g) (live w []) es p r (start-holds g w f))
 
 -- ---- there are sequences, for every geometry in range
-pub some-sequence : (g : Geometry) → geometryOk g ≡ true → (w : World) × InSequence g [] w
-some-sequence g ok = let f = some-formatted g ok in (f .0, record { start = f .0; formatted = f .1; run = stop (live (f .0)) })
+pub some-sequence : (g : Geometry) → geometryOk g ≡ true → (w : World) × InSequence g [] w []
+some-sequence g ok = let f = some-formatted g ok in (f .0, record { start = f .0; formatted = f .1; run = stop (live (f .0) []) })

@@ -5,7 +5,7 @@ use mathlib.Core.Bool.{true, false}
 use Prim.Native.Nat.{ℕ, suc, _+_, _-_, _≤_, _<_}
 use native.Mathlib.Omega.{arith}
 use native.Mathlib.Numerals.{add-one}
-use mathlib.Core.List.{List, [], _∷_}
+use mathlib.Core.List.{List, [], _∷_, _++_}
 use lib.ListN.{length, getD, set}
 use lib.Seq.{getD-set-same, getD-set-other, take-all}
 use lib.Dec.{eqb, leb, ltb}
@@ -13,10 +13,12 @@ use borrow.Author.Tests.{eqb-true, eqb-false, ltb-true, ltb-false}
 use Rattle.model.specs.Page.{pageAt, dataAt, spareOf, wholeAt, blankAt}
 use Rattle.model.specs.Geometry.{dataPage}
 use Rattle.model.specs.Zones.{Entry, entryOf}
+use Rattle.model.specs.Recovery.{ofId}
 use Rattle.model.specs.Answers.{refused}
 use Rattle.model.specs.World.{World, Plan, applyOp}
 use Rattle.model.specs.Frame.{freePlace, noPlace, badId, isIdle}
-use Rattle.model.specs.Transactions.{placeOf, withPlace, withVersion, cleanPages, nextPage, zoneShort, spent, pageKind, changeBytes, heldAt, heldPage, heldDrop, entered, markPlan, forgetPlan, planCommit}
+use Rattle.model.specs.Transactions.{placeOf, withPlace, withVersion, cleanPages, nextPage, zoneShort, spent, pageKind, changeBytes, heldAt}
+use Rattle.model.specs.Transactions.{heldPage, heldDrop, entered, markPlan, forgetPlan, planCommit, withLast, numberOf}
 use Rattle.model.specs.Commands.{commit, plan, carried}
 use Rattle.model.specs.Book.{Book, Write, entering, changing, writesOf, close, enterAll}
 use Rattle.model.specs.declared.Geometry.{Geometry}
@@ -28,11 +30,11 @@ use Rattle.arrays.specs.Image.{SpareFits}
 use Rattle.arrays.specs.Whole.{whole-not-blank}
 use Rattle.front.specs.Kept.{kept-away}
 use Rattle.scanlog.specs.Occ.{occ}
-use Rattle.arrays.specs.Insert.{Insert, insert-length}
-use Rattle.scanlog.specs.Log.{ofId-other, ofId-in}
-use Rattle.scanlog.specs.Good.{change-kind, change-drop}
+use Rattle.arrays.specs.Insert.{Insert}
+use Rattle.scanlog.specs.Log.{ofId-other}
+use Rattle.scanlog.specs.Good.{change-kind, change-drop, Plain}
 use Rattle.scanlog.specs.Logged.{Logged, logged-mark}
-use Rattle.scanlog.specs.Open.{opens-set, open-noMark, open-length, open-mark}
+use Rattle.scanlog.specs.Open.{opens-set, open-noMark, open-mark, Open, number-le, number-one, number-two, open-lower, open-count, open-turn}
 use Rattle.sequence.specs.Contents.{Contents, contentOf}
 use Rattle.sequence.specs.Places.{placeAt, places-set, free-ok, Found, place-found}
 use Rattle.sequence.specs.Writes.{Laid, Writes, Enters, Entered, WholeSame, writeAt, laid-keep, stored-keep, enters-all, held-long}
@@ -41,13 +43,14 @@ use Rattle.sequence.specs.View.{View, yes, view-test, view-gate, view-co
 use Rattle.sequence.specs.Abort.{changing-close, found-apart, forget-live}
 use Rattle.sequence.specs.Lone.{changing-grow, room-clean}
 use Rattle.sequence.specs.Write.{kind-small}
-use Rattle.sequence.specs.PlaceIn.{PlaceIn, place-in, first-passes, good-name}
-use Rattle.sequence.specs.Append.{Appends, appends, appended, next-is-data, next-mapped, next-blank, next-free, append-whole, append-data, append-spare, append-keeps, append-tidy, rescanned, append-in, append-turn, append-front, append-sound, append-contents}
+use Rattle.sequence.specs.PlaceIn.{PlaceIn, place-in, first-passes, good-name, most-room, most-two}
+use Rattle.sequence.specs.Append.{Appends, appends, appended, next-is-data, next-mapped, next-blank, next-free, append-whole, append-data, append-spare}
+use Rattle.sequence.specs.Append.{append-keeps, append-tidy, rescanned, append-in, append-front, append-sound, append-contents, append-last}
 
 -- ---- the plan
 pub data Commits (w : World) (id : ℕ) : Plan → Type 0 where
-  forgets : isIdle (w .state .work) ≡ true → leb 8 (placeOf (w .state .places) id) ≡ false → placeAt (w .state .places) (placeOf (w .state .places) id) .count ≡ 0
-      → Commits w id (forgetPlan (placeOf (w .state .places) id) w)
+  forgets : isIdle (w .state .work) ≡ true → leb 8 (placeOf (w .state .places) id) ≡ false
+      → placeAt (w .state .places) (placeOf (w .state .places) id) .count ≡ 0 → Commits w id (forgetPlan (placeOf (w .state .places) id) w)
   marks : isIdle (w .state .work) ≡ true → leb 8 (placeOf (w .state .places) id) ≡ false → placeAt (w .state .places) (placeOf (w .state .places) id) .count ≢ 0
       → spent (w .state .version) 1 ≡ false → zoneShort w ≡ false
       → Commits w id (markPlan (placeOf (w .state .places) id) (placeAt (w .state .places) (placeOf (w .state .places) id)) w)
@@ -95,7 +98,13 @@ module _ (w : World) (b : Book) (h : Live w b) (id i : ℕ) (idle : isIdle (w .s
   inside : PlaceIn g p
   inside = place-in g p (h .places .ok i (f .low))
 
-  version-small : v ≤ 4294967294
+  few : p .count ≤ 64
+  few = omega (arith, inside .few, most-room g .1)
+
+  few-two : g .planes ≡ 2 → p .count ≤ 41
+  few-two two = omega (arith, inside .few, most-two g two)
+
+  pub version-small : v ≤ 4294967294
   version-small = omega (arith, ltb-false 4294967294 v more)
 
   -- the pages programmed before
@@ -106,7 +115,7 @@ module _ (w : World) (b : Book) (h : Live w b) (id i : ℕ) (idle : isIdle (w .s
   count-is = omega arith
 
   lpn-low : (j : ℕ) → j < p .count → getD (p .lpns) j 0 < g .logical
-  lpn-low j l = ltb-true _ (g .logical) (first-passes (λ (x : ℕ). ltb x (g .logical)) (p .count) (p .lpns) (omega (arith, own .lpns, inside .few)) (inside .lpns) j l)
+  lpn-low j l = ltb-true _ (g .logical) (first-passes (λ (x : ℕ). ltb x (g .logical)) (p .count) (p .lpns) (omega (arith, own .lpns, few)) (inside .lpns) j l)
 
   held-name′ : p .id ≢ 4294967295
   held-name′ = pick (inside .name)
@@ -116,17 +125,17 @@ module _ (w : World) (b : Book) (h : Live w b) (id i : ℕ) (idle : isIdle (w .s
       pick (inr e) = absurd (some (e .0))
 
   -- the spare area of the mark
-  abbrev markSpare : Spare
-  markSpare = record { lpn = heldPage p; cnt = p .count; id = p .id; ver = v; kind = pageKind (heldDrop p); reserved = 0 }
+  abbrev pub markSpare : Spare
+  markSpare = record { lpn = heldPage p; cnt = p .count; id = p .id; ver = v; kind = pageKind (heldDrop p); reserved = numberOf g (p .count) }
 
   mark-fits : SpareFits markSpare
   mark-fits = record {
     lpn = omega (arith, lpn-low n (omega arith), live-range w b h .logical-most);
-    cnt = omega (arith, inside .few);
+    cnt = omega (arith, few);
     id = own .small;
     ver = omega (arith, version-small);
     kind = kind-small (heldDrop p);
-    reserved = omega arith;
+    reserved = omega (arith, number-le g (p .count), few);
   }
 
   -- its data
@@ -165,7 +174,7 @@ module _ (w : World) (b : Book) (h : Live w b) (id i : ℕ) (idle : isIdle (w .s
   qs-old j l = getD-set-other (p .ppns) n j k 0 (λ q. absurd (omega arith))
 
   qs-new : getD qs n 0 ≡ k
-  qs-new = getD-set-same (p .ppns) n k 0 (omega (arith, own .ppns, inside .few))
+  qs-new = getD-set-same (p .ppns) n k 0 (omega (arith, own .ppns, few))
 
   marked : Laid ys (w .map) (p .id) k
   marked = record {
@@ -193,7 +202,8 @@ module _ (w : World) (b : Book) (h : Live w b) (id i : ℕ) (idle : isIdle (w .s
 
   page-at : (j : ℕ) → j < p .count → Is j n → dataPage g (getD qs j 0) ≡ true
   page-at j l (inl q) = rw (q .0, qs-new) (next-is-data w b h clean markData markSpare mark-long mark-small mark-fits)
-  page-at j l (inr q) = rw (qs-old j (omega (arith, q .0))) (first-passes (dataPage g) n (p .ppns) (omega (arith, own .ppns, inside .few)) (inside .ppns) j (omega (arith, q .0)))
+  page-at j l (inr q) =
+      rw (qs-old j (omega (arith, q .0))) (first-passes (dataPage g) n (p .ppns) (omega (arith, own .ppns, few)) (inside .ppns) j (omega (arith, q .0)))
 
   apart-at : (j m : ℕ) → j < m → m < p .count → Is m n → getD qs j 0 ≢ getD qs m 0
   apart-at j m l c (inl q) = rw (q .0, qs-new, qs-old j (omega (arith, q .0))) (old-new j (omega (arith, q .0)))
@@ -216,12 +226,24 @@ module _ (w : World) (b : Book) (h : Live w b) (id i : ℕ) (idle : isIdle (w .s
   contents : Contents ys map′ (enterAll (b .pages) ws)
   contents = subst (λ (l : List Write). Contents ys map′ (enterAll (b .pages) l)) (take-all (p .count) ws (omega (arith, own .count))) (all-in .contents)
 
+  -- the pages of other identifiers stay unmapped
+  pub mark-others : (name x : ℕ) → Laid (w .array) (w .map) name x → name ≢ p .id → occ x map′ ≡ 0
+  mark-others name x a e = omega (arith, a .free, all-in .others x (a .real) (λ m c. page m c (eqb-cases m n)))
+    where
+      page : (m : ℕ) → m < p .count → Is m n → x ≢ getD qs m 0
+      page m c (inl q) = rw (q .0, qs-new) (λ r. clash blank (whole-not-blank (w .array) k (subst (λ (t : ℕ). wholeAt (w .array) t ≡ true) r (a .whole))))
+      page m c (inr q) =
+          let u : suc m < p .count = omega (arith, q .0) in
+          rw (qs-old m u) (λ r. e (sym (a .owner) ∙ ap (λ (t : ℕ). spareOf (pageAt (w .array) t) .id) r ∙ own .laid m u .owner))
+
   -- the pages of the other changes stay unmapped
-  others-free : (j : ℕ) → j < 8 → placeAt (set ps i freePlace) j .id ≢ 0 → (x : ℕ) → Laid (w .array) (w .map) (placeAt (set ps i freePlace) j .id) x → occ x map′ ≡ 0
+  others-free : (j : ℕ) → j < 8 → placeAt (set ps i freePlace) j .id ≢ 0 → (x : ℕ) → Laid (w .array) (w .map) (placeAt (set ps i freePlace) j .id) x
+      → occ x map′ ≡ 0
   others-free j l z x y = go (eqb-cases j i)
     where
       other-page : placeAt ps j .id ≢ p .id → Laid (w .array) (w .map) (placeAt ps j .id) x → (m : ℕ) → m < p .count → Is m n → x ≢ getD qs m 0
-      other-page e a m c (inl q) = rw (q .0, qs-new) (λ r. clash blank (whole-not-blank (w .array) k (subst (λ (t : ℕ). wholeAt (w .array) t ≡ true) r (a .whole))))
+      other-page e a m c (inl q) =
+          rw (q .0, qs-new) (λ r. clash blank (whole-not-blank (w .array) k (subst (λ (t : ℕ). wholeAt (w .array) t ≡ true) r (a .whole))))
       other-page e a m c (inr q) =
           let u : suc m < p .count = omega (arith, q .0) in
           rw (qs-old m u) (λ r. e (sym (a .owner) ∙ ap (λ (t : ℕ). spareOf (pageAt (w .array) t) .id) r ∙ own .laid m u .owner))
@@ -241,18 +263,41 @@ module _ (w : World) (b : Book) (h : Live w b) (id i : ℕ) (idle : isIdle (w .s
   put-in : Insert (entryOf k markSpare) (scanned w) es
   put-in = append-in w b h clean markData markSpare mark-long mark-small mark-fits
 
+  pub mark-opened : Open g p (scanned w)
+  mark-opened = h .opens i (f .low) some
+
+  pub mark-number : entryOf k markSpare .reserved ≡ numberOf g (p .count)
+  unfolding entryOf
+  mark-number = refl
+
+  pub mark-plain : Plain (g .planes) (g .logical) (entryOf k markSpare)
+  unfolding entryOf
+  mark-plain = record {
+    kind = change-kind (heldDrop p);
+    lpn = lpn-low n (omega arith);
+    id = held-name′;
+    ver = λ q. absurd (omega (arith, q, version-small));
+    none = elim [ inl q ↦ number-one g (p .count) q | inr q ↦ absurd (some q) ];
+    least = λ two z. omega (arith, number-two g (p .count) two);
+    most = λ two. omega (arith, number-two g (p .count) two, few-two two);
+  }
+
+  last : g .planes ≢ 2 → ofId (p .id) es ≡ ofId (p .id) (scanned w) ++ (entryOf k markSpare ∷ [])
+  unfolding entryOf
+  last = append-last w b h clean markData markSpare mark-long mark-small mark-fits
+
   -- what the log makes of it
-  logged : Logged (g .logical) (h .saved .version) (h .saved .map) es map′ v
+  logged : Logged (g .planes) (g .logical) (h .saved .version) (h .saved .map) es map′ v
   unfolding entryOf
   logged =
-      let o = h .opens i (f .low) some in
-      let l = logged-mark (g .logical) (h .saved .version) (h .saved .map) (w .map) (w .state .version) (live-logged w b h) (entryOf k markSpare) put-in
-      (record { kind = change-kind (heldDrop p); reserved = refl; lpn = lpn-low n (omega arith); id = held-name′; ver = λ q. absurd (omega (arith, q, version-small)) }) some (open-noMark p (scanned w) o)
-      many (count-is ∙ ap suc (sym (open-length p (scanned w) o)) ∙ sym (insert-length _ (ofId-in (p .id) _ put-in refl))) (add-one (w .state .version)) in
-      subst (λ (u : ℕ). Logged (g .logical) (h .saved .version) (h .saved .map) es map′ u) (sym (add-one (w .state .version)))
-      (subst (λ (m : List ℕ). Logged (g .logical) (h .saved .version) (h .saved .map) es m (suc (w .state .version)))
-      (open-mark p (scanned w) o es (w .map) (entryOf k markSpare) many (omega (arith, own .ppns, inside .few)) refl (change-drop (heldDrop p))
-      (append-turn w b h clean markData markSpare mark-long mark-small mark-fits)) l)
+      let e = entryOf k markSpare in
+      let l = logged-mark (g .planes) (g .logical) (h .saved .version) (h .saved .map) (w .map) (w .state .version) (live-logged w b h) e put-in mark-plain
+      (open-lower g p (scanned w) mark-opened es e put-in refl refl) some (open-noMark g p (scanned w) mark-opened) many
+      (open-count g p (scanned w) mark-opened es e put-in refl refl many) (add-one (w .state .version)) in
+      subst (λ (u : ℕ). Logged (g .planes) (g .logical) (h .saved .version) (h .saved .map) es map′ u) (sym (add-one (w .state .version)))
+      (subst (λ (m : List ℕ). Logged (g .planes) (g .logical) (h .saved .version) (h .saved .map) es m (suc (w .state .version)))
+      (open-mark g p (scanned w) mark-opened es e put-in refl refl many (omega (arith, own .ppns, few))
+      (open-turn g p (scanned w) mark-opened es e put-in refl refl few-two last) (w .map) refl (change-drop (heldDrop p))) l)
 
   mark-id : entryOf k markSpare .id ≡ p .id
   unfolding entryOf
@@ -263,26 +308,28 @@ module _ (w : World) (b : Book) (h : Live w b) (id i : ℕ) (idle : isIdle (w .s
   told = record { pages = enterAll (b .pages) ws; changes = close id (b .changes) }
 
   pub mark-live : Live (carried (markPlan i p w) w .world) told
-  unfolding carried markPlan withPlace withVersion changeBytes
+  unfolding carried markPlan withPlace withVersion withLast changeBytes
   mark-live = record {
     saved = h .saved;
-    sound = append-sound w b h clean markData markSpare mark-long mark-small mark-fits map′ v (enterAll (b .pages) ws) logged (all-in .good) (all-in .long ∙ h .sound .wide) contents version-small;
+    sound = append-sound w b h clean markData markSpare mark-long mark-small mark-fits map′ v (enterAll (b .pages) ws) logged (all-in .good)
+        (all-in .long ∙ h .sound .wide) contents version-small;
     kept = kept-away w _ (h .saved) (h .kept) (idle-calm (w .state .work) idle) (idle-calm (w .state .work) idle)
-        (record { geometry = refl; checkpoint = refl; front = refl; first = refl }) (append-front w b h clean markData markSpare mark-long mark-small mark-fits);
+        (record { geometry = refl; checkpoint = refl; front = refl; first = refl })
+        (append-front w b h clean markData markSpare mark-long mark-small mark-fits);
     grown = h .grown;
     tidy = append-tidy w b h clean markData markSpare mark-long mark-small mark-fits;
     hold = h .hold;
     places = places-set g ps i freePlace (h .places) (free-ok g) (λ z. absurd (z refl));
-    opens = opens-set ps (scanned w) _ i freePlace (h .opens) (λ z. absurd (z refl))
-        (λ j l m z. ofId-other (placeAt ps j .id) _ put-in (λ q. h .places .apart i j (f .low) l (λ r. m (sym r)) some (sym q ∙ mark-id)));
+    opens = (opens-set g ps (scanned w) _ i freePlace (h .opens) (λ z. absurd (z refl))
+        (λ j l m z. ofId-other (placeAt ps j .id) _ put-in (λ q. h .places .apart i j (f .low) l (λ r. m (sym r)) some (sym q ∙ mark-id))));
     changing = changing-grow (w .array) ys (w .map) map′ (w .hold) (set ps i freePlace) told told refl keeps others-free
         (changing-close (w .array) (w .map) (w .hold) ps b id i f (h .changing) (found-apart w b id i h f) told refl);
   }
 
   -- it appends the mark
-  pub mark-appends : Appends w b (markPlan i p w)
+  pub mark-appends : Appends w b h markSpare (markPlan i p w)
   mark-appends = appends w b h clean markData markSpare mark-long mark-small mark-fits (markPlan i p w)
-      (unfold markPlan changeBytes in refl) (unfold markPlan withPlace withVersion in refl) (unfold markPlan withPlace withVersion in refl)
+      (unfold markPlan changeBytes in refl) (unfold markPlan withPlace withVersion withLast in refl) (unfold markPlan withPlace withVersion withLast in refl)
 
 -- "With nothing written, commit is done with no page and no version"
 nothing-written : (w : World) (b : Book) (h : Live w b) (id i : ℕ) → Found (w .state .places) id i → placeAt (w .state .places) i .count ≡ 0

@@ -6,8 +6,11 @@ pub mod PlaceIn
 pub mod OpenBook
 pub mod Writes
 pub mod Sound
+pub mod Running
+pub mod Lost
 pub mod Live
 pub mod View
+pub mod SameShape
 pub mod Begin
 pub mod Append
 pub mod Lone
@@ -17,9 +20,11 @@ pub mod Commit
 pub mod Spared
 pub mod Checkpointing
 pub mod Reclaiming
+pub mod Beside
+pub mod Miscount
 pub mod Cuts
+pub mod RunsKept
 pub mod Start
-pub mod SameShape
 pub mod Theorem
 pub mod ScanOrder
 pub mod UnderWay

@@ -60,7 +60,7 @@ pub record Live (w : World) (b : Book) : Type 0 where
   pub tidy : Tidy (w .state .geometry) (w .array) (w .state .zones)
   pub hold : length (w .hold) ≡ 4096
   pub places : PlacesGood (w .state .geometry) (w .state .places)
-  pub opens : Opens (w .state .places) (scanned w)
+  pub opens : Opens (w .state .geometry) (w .state .places) (scanned w)
   pub changing : Changing (w .array) (w .map) (w .hold) (w .state .places) b
 
 -- ---- laws
@@ -68,7 +68,8 @@ module _ (w : World) (b : Book) (h : Live w b) where
   pub live-range : InGeometry (w .state .geometry)
   live-range = geometry-in (w .state .geometry) (h .sound .geometry)
 
-  pub live-logged : Logged (w .state .geometry .logical) (h .saved .version) (h .saved .map) (scanned w) (w .map) (w .state .version)
+  pub live-logged : Logged (w .state .geometry .planes) (w .state .geometry .logical) (h .saved .version) (h .saved .map) (scanned w) (w .map)
+      (w .state .version)
   live-logged = rw (grown-scan (h .saved .zones) (w .state .zones) (h .grown) (w .array) (w .state .geometry .pages)) at (h .sound .logged)
 
   live-lent : lentOk (w .state .geometry) w ≡ true
@@ -110,8 +111,8 @@ free-places-good g = record { ok = each 8; apart = λ i j l k n z. absurd (z (fr
     each (suc n) (suc i) l = each n i (omega arith)
 
 -- they are open nowhere, and no change of the book is
-pub free-opens : (es : List Entry) → Opens (replicate 8 freePlace) es
-free-opens es i l z = absurd (z (free-at 8 i))
+pub free-opens : (g : Geometry) (es : List Entry) → Opens g (replicate 8 freePlace) es
+free-opens g es i l z = absurd (z (free-at 8 i))
 
 pub free-changing : (xs map hold : List ℕ) (b : Book) → b .changes ≡ [] → Changing xs map hold (replicate 8 freePlace) b
 unfolding isOpen any
@@ -152,6 +153,6 @@ sound-live g xs c map version b hold h e = record {
   tidy = grown-tidy (plain (c .zones)) (c .zones) (plain-grown (c .zones)) g xs (plain-ok g (c .zones) (h .front .fits) (h .sane .zones)) (h .tidy);
   hold = e;
   places = free-places-good g;
-  opens = free-opens _;
+  opens = free-opens g _;
   changing = free-changing xs map hold (closedBook b) refl;
 }

@@ -15,7 +15,7 @@ use Rattle.model.specs.Zones.{entryOf}
 use Rattle.model.specs.Answers.{refused}
 use Rattle.model.specs.World.{World, Plan}
 use Rattle.model.specs.Frame.{isIdle}
-use Rattle.model.specs.Transactions.{cleanPages, nextPage, zoneShort, spent, dataBytes, loneMap, lonePlan, planLone, withVersion}
+use Rattle.model.specs.Transactions.{cleanPages, nextPage, zoneShort, spent, dataBytes, loneMap, lonePlan, planLone, withVersion, withLast}
 use Rattle.model.specs.Commands.{lone, plan, carried}
 use Rattle.model.specs.Book.{Book, holds, entering, changing}
 use Rattle.model.specs.Sequence.{fits}
@@ -36,12 +36,14 @@ use Rattle.sequence.specs.Places.{placeAt}
 use Rattle.sequence.specs.Writes.{Laid, WholeSame, writes-keep}
 use Rattle.sequence.specs.Live.{Changing, Live, live-range, live-logged, scanned}
 use Rattle.sequence.specs.View.{View, yes, view-test, view-gate, idle-only, Keeps, done-live, view-keeps, idle-calm}
-use Rattle.sequence.specs.Append.{Appends, appends, appended, next-is-data, next-mapped, next-blank, next-free, append-whole, append-data, append-keeps, append-tidy, rescanned, append-in, append-front, append-sound, append-contents}
+use Rattle.sequence.specs.Append.{Appends, appends, appended, next-is-data, next-mapped, next-blank, next-free, append-whole, append-data, append-keeps}
+use Rattle.sequence.specs.Append.{append-tidy, rescanned, append-in, append-front, append-sound, append-contents}
 
 -- ---- the open changes while the array grows
 -- every place keeps its writes
 pub changing-grow : (xs ys map map′ hold : List ℕ) (ps : List Place) (b b′ : Book) → b′ .changes ≡ b .changes → WholeSame xs ys
-    → ((i : ℕ) → i < 8 → placeAt ps i .id ≢ 0 → (x : ℕ) → Laid xs map (placeAt ps i .id) x → occ x map′ ≡ 0) → Changing xs map hold ps b → Changing ys map′ hold ps b′
+    → ((i : ℕ) → i < 8 → placeAt ps i .id ≢ 0 → (x : ℕ) → Laid xs map (placeAt ps i .id) x → occ x map′ ≡ 0) → Changing xs map hold ps b
+    → Changing ys map′ hold ps b′
 changing-grow xs ys map map′ hold ps b b′ e same o c = record {
   eight = c .eight;
   writes = λ i l z. rw e (writes-keep xs ys map map′ hold hold i (placeAt ps i) _ same (o i l z) refl (c .writes i l z));
@@ -72,20 +74,35 @@ module _ (w : World) (b : Book) (h : Live w b) (clean : 0 < cleanPages w) (lpn :
       let v = ltb-false 4294967294 (w .state .version + 1) more in
       record { lpn = omega (arith, r .logical-most); cnt = omega arith; id = omega arith; ver = omega arith; kind = omega arith; reserved = omega arith }
 
-  pub lone-logged : Logged (w .state .geometry .logical) (h .saved .version) (h .saved .map) (rescanned w b h clean d (loneSpare lpn (w .state .version + 1)) long small loneFits)
+  pub lone-logged : Logged (w .state .geometry .planes) (w .state .geometry .logical) (h .saved .version) (h .saved .map)
+      (rescanned w b h clean d (loneSpare lpn (w .state .version + 1)) long small loneFits)
       (loneMap lpn w) (w .state .version + 1)
   unfolding entryOf
   lone-logged =
       let v = ltb-false 4294967294 (w .state .version + 1) more in
-      subst (λ (u : ℕ). Logged (w .state .geometry .logical) (h .saved .version) (h .saved .map) (rescanned w b h clean d (loneSpare lpn (w .state .version + 1)) long small loneFits) (loneMap lpn w) u)
+      subst (λ (u : ℕ). Logged (w .state .geometry .planes) (w .state .geometry .logical) (h .saved .version) (h .saved .map)
+      (rescanned w b h clean d (loneSpare lpn (w .state .version + 1)) long small loneFits) (loneMap lpn w) u)
       (sym (add-one (w .state .version)))
-      (logged-lone (w .state .geometry .logical) (h .saved .version) (h .saved .map) (w .map) (w .state .version) (live-logged w b h) _
+      (logged-lone (w .state .geometry .planes) (w .state .geometry .logical) (h .saved .version) (h .saved .map) (w .map) (w .state .version)
+      (live-logged w b h) _
       (append-in w b h clean d (loneSpare lpn (w .state .version + 1)) long small loneFits)
-      (record { kind = refl; reserved = refl; lpn = low; id = λ q. absurd (omega (arith, q)); ver = λ q. absurd (omega (arith, q)) }) refl refl (add-one (w .state .version)))
+      (record {
+        kind = refl;
+        lpn = low;
+        id = λ q. absurd (omega (arith, q));
+        ver = λ q. absurd (omega (arith, q));
+        none = λ q. refl;
+        least = λ t i. absurd (i refl);
+        most = λ t. omega arith;
+      })
+      (λ t i. absurd (i refl)) refl refl (add-one (w .state .version)))
 
-  pub lone-opens : Opens (w .state .places) (rescanned w b h clean d (loneSpare lpn (w .state .version + 1)) long small loneFits)
+  pub lone-opens : Opens (w .state .geometry) (w .state .places) (rescanned w b h clean d (loneSpare lpn (w .state .version + 1)) long small loneFits)
   unfolding entryOf
-  lone-opens = opens-same (w .state .places) (scanned w) _ (h .opens) (λ j l z. ofId-other (placeAt (w .state .places) j .id) _ (append-in w b h clean d (loneSpare lpn (w .state .version + 1)) long small loneFits) (λ q. z (sym q)))
+  lone-opens =
+      opens-same (w .state .geometry) (w .state .places) (scanned w) _ (h .opens)
+      (λ j l z. ofId-other (placeAt (w .state .places) j .id) _ (append-in w b h clean d (loneSpare lpn (w .state .version + 1)) long small loneFits)
+      (λ q. z (sym q)))
 
 -- ---- lone write
 pub record Lones (w : World) (lpn : ℕ) (d : List ℕ) (p : Plan) : Type 0 where
@@ -104,11 +121,18 @@ lone-view lpn d w =
     view-test w (Lones w lpn d) (leb (w .state .geometry .logical) lpn) 5 _ refl (λ c.
     view-test w (Lones w lpn d) (spent (w .state .version) 1) 13 _ refl (λ e.
     view-test w (Lones w lpn d) (zoneShort w) 12 _ refl (λ z.
-    yes _ (record { idle = idle-only (isIdle (w .state .work)) i; long = eqb-true (length d) 512 (not-false (eqb (length d) 512) a); low = leb-false (w .state .geometry .logical) lpn c; more = e; room = z; is = refl }))))))
+    yes _ (record {
+      idle = idle-only (isIdle (w .state .work)) i;
+      long = eqb-true (length d) 512 (not-false (eqb (length d) 512) a);
+      low = leb-false (w .state .geometry .logical) lpn c;
+      more = e;
+      room = z;
+      is = refl;
+    }))))))
 
 pub lone-live : (w : World) (b : Book) (lpn : ℕ) (d : List ℕ) → Live w b → Bytes d → Lones w lpn d (lonePlan lpn d w)
     → Live (carried (lonePlan lpn d w) w .world) (record { pages = set (b .pages) lpn (holds d); changes = b .changes })
-unfolding carried lonePlan withVersion dataBytes
+unfolding carried lonePlan withVersion withLast dataBytes
 lone-live w b lpn d h small v =
     let clean = room-clean w b h (v .room) in
     let r = live-range w b h in
@@ -120,10 +144,12 @@ lone-live w b lpn d h small v =
       saved = h .saved;
       sound = append-sound w b h clean d s (v .long) small fit (loneMap lpn w) (w .state .version + 1) (set (b .pages) lpn (holds d))
           (lone-logged w b h clean lpn d (v .long) small (v .low) (v .more))
-          (good-set (w .state .geometry) (w .map) lpn k (h .sound .good) (next-is-data w b h clean d s (v .long) small fit) (next-free w b h clean d s (v .long) small fit))
+          (good-set (w .state .geometry) (w .map) lpn k (h .sound .good) (next-is-data w b h clean d s (v .long) small fit)
+          (next-free w b h clean d s (v .long) small fit))
           (length-set (w .map) lpn k ∙ h .sound .wide)
           (contents-set ys (w .map) (b .pages) lpn k d (omega (arith, v .low, h .sound .wide)) (next-mapped w b h clean d s (v .long) small fit)
-          (append-whole w b h clean d s (v .long) small fit) (append-data w b h clean d s (v .long) small fit) (append-contents w b h clean d s (v .long) small fit))
+          (append-whole w b h clean d s (v .long) small fit) (append-data w b h clean d s (v .long) small fit)
+          (append-contents w b h clean d s (v .long) small fit))
           (omega (arith, ltb-false 4294967294 (w .state .version + 1) (v .more)));
       kept = kept-away w _ (h .saved) (h .kept) (idle-calm (w .state .work) (v .idle)) (idle-calm (w .state .work) (v .idle))
           (record { geometry = refl; checkpoint = refl; front = refl; first = refl }) (append-front w b h clean d s (v .long) small fit);
@@ -137,11 +163,13 @@ lone-live w b lpn d h small v =
     }
 
 -- it appends its page
-pub lone-appends : (w : World) (b : Book) (lpn : ℕ) (d : List ℕ) → Live w b → Bytes d → Lones w lpn d (lonePlan lpn d w) → Appends w b (lonePlan lpn d w)
+pub lone-appends : (w : World) (b : Book) (lpn : ℕ) (d : List ℕ) (h : Live w b) → Bytes d → Lones w lpn d (lonePlan lpn d w)
+    → Appends w b h (loneSpare lpn (w .state .version + 1)) (lonePlan lpn d w)
 lone-appends w b lpn d h small v =
     let clean = room-clean w b h (v .room) in
-    appends w b h clean d (loneSpare lpn (w .state .version + 1)) (v .long) small (loneFits w b h clean lpn d (v .long) small (v .low) (v .more)) (lonePlan lpn d w)
-    (unfold lonePlan dataBytes in refl) (unfold lonePlan withVersion in refl) (unfold lonePlan withVersion in refl)
+    appends w b h clean d (loneSpare lpn (w .state .version + 1)) (v .long) small (loneFits w b h clean lpn d (v .long) small (v .low) (v .more))
+    (lonePlan lpn d w)
+    (unfold lonePlan dataBytes in refl) (unfold lonePlan withVersion withLast in refl) (unfold lonePlan withVersion withLast in refl)
 
 pub lone-keeps : (w : World) (b : Book) (lpn : ℕ) (d : List ℕ) → Live w b → fits (lone lpn d) ≡ true → Keeps (lone lpn d) w b
 unfolding plan fits

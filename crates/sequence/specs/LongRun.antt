@@ -13,15 +13,18 @@ use Rattle.model.specs.Lists.{all, any, find, without, upFrom, padTo}
 use Rattle.model.specs.Bytes.{bytes}
 use Rattle.model.specs.Geometry.{geometryOk, dataBlock}
 use Rattle.model.specs.Zones.{active, onPages, availableOf, cleanIn, usedIn, scanOf, zonesOf, freeIndex, pastBlock, takeOne, refill, zonesTaken, formatZones}
-use Rattle.model.specs.World.{World, Plan, none, program, applyOp}
-use Rattle.model.specs.Frame.{freePlace, badId, isIdle, gate, freshState}
-use Rattle.model.specs.Transactions.{placeOf, withPlace, cleanPages, nextPage, zoneShort, begun, liveId, planBegin, written, heldOp, writePlan, markPlan, planCommit}
+use Rattle.model.specs.Answers.{refused}
+use Rattle.model.specs.World.{World, Plan, none, program, applyOp, isNone}
+use Rattle.model.specs.Frame.{freePlace, badId, mostPages, isIdle, gate, freshState}
+use Rattle.model.specs.Transactions.{placeOf, withPlace, cleanPages, nextPage, zoneShort, begun, liveId, planBegin, taking}
+use Rattle.model.specs.Transactions.{withLast, written, heldOp, heldState, writePlan, markPlan, planCommit}
 use Rattle.model.specs.Strides.{withZones, withNumber}
 use Rattle.model.specs.Commands.{begin, write, commit, plan, carried, exec}
 use Rattle.model.specs.Book.{Book, Event, called, blank, tell}
-use Rattle.model.specs.Sequence.{fits, live, Step, call, Formatted}
+use Rattle.model.specs.Sequence.{fits, Running, live, left, runsAfter, Step, call, Formatted}
 use Rattle.model.specs.declared.Geometry.{Geometry}
 use Rattle.model.specs.declared.Place.{Place}
+use Rattle.model.specs.declared.Spare.{Spare}
 use Rattle.model.specs.declared.State.{State}
 use Rattle.arrays.specs.Tests.{Is, eqb-cases}
 use Rattle.arrays.specs.Ranges.{geometry-in}
@@ -32,26 +35,30 @@ use Rattle.front.specs.FormatCalls.{Starts, formatted}
 use Rattle.scanlog.specs.Tidy.{clean-next}
 use Rattle.scanlog.specs.Start.{scan-format}
 use Rattle.sequence.specs.Places.{placeAt, place-found}
+use Rattle.sequence.specs.PlaceIn.{most-one}
 use Rattle.sequence.specs.Live.{Live, live-frame}
-use Rattle.sequence.specs.View.{after}
+use Rattle.sequence.specs.View.{View, after}
+use Rattle.sequence.specs.SameShape.{held-same}
 use Rattle.sequence.specs.Append.{Appends}
-use Rattle.sequence.specs.Write.{page-appends, write-told, write-bytes, add-shape, add-live}
+use Rattle.sequence.specs.Write.{WritesTo, page-appends, write-told, write-bytes, add-shape, add-live}
+use Rattle.sequence.specs.Beside.{either-none}
 use Rattle.sequence.specs.Start.{format-zones-ok, formatted-idle, fresh-erased, some-formatted}
 use Rattle.sequence.specs.Theorem.{LiveAt, step-holds, start-holds}
 use Rattle.sequence.specs.Former.{formerWrite, FormerStep, step, wrote, FormerRun, end, then, former-view, former-done}
 
 -- ---- a page appended takes a clean one
-pub append-clean : (w : World) (b : Book) (p : Plan) → Live w b → Appends w b p → cleanPages w ≡ suc (cleanPages (after p w))
+pub append-clean : (w : World) (b : Book) (h : Live w b) (s : Spare) (p : Plan) → Appends w b h s p → cleanPages w ≡ suc (cleanPages (after p w))
 unfolding carried
-append-clean w b p h a =
+append-clean w b h s p a =
     let n = w .state .geometry .pages in
     rw (a .does, a .geometry, a .zones)
-    (clean-next (w .state .geometry) (w .array) (w .state .zones) (h .tidy) (a .clean) (applyOp n (program (nextPage w) (a .new)) (w .array))
-    (program-other n (w .array) (nextPage w) (a .new) (a .ok .fits)) (whole-not-blank _ (nextPage w) (programmed-whole n (w .array) (nextPage w) (a .new) (a .ok))))
+    (clean-next (w .state .geometry) (w .array) (w .state .zones) (w .state .last) (h .tidy) (a .clean) (applyOp n (program (nextPage w) (a .new)) (w .array))
+    (program-other n (w .array) (nextPage w) (a .new) (a .ok .fits))
+    (whole-not-blank _ (nextPage w) (programmed-whole n (w .array) (nextPage w) (a .new) (a .ok))))
 
 -- ---- the flash, and what is written
 abbrev pub flash : Geometry
-flash = record { blocks = 8; pages = 32; logical = 64 }
+flash = record { blocks = 8; pages = 32; logical = 64; planes = 1 }
 
 abbrev pub zeros : List ℕ
 zeros = replicate 512 0
@@ -128,33 +135,43 @@ module _ (w : World) (b : Book) (n : ℕ) (f : Filled w b n) where
     abbrev told : Book
     told = tell b (called (write 1 0 zeros) (formerWrite 1 0 zeros w .answer))
 
+    -- it writes, or refuses
+    adds : View w (WritesTo w 1 0 false zeros) (formerWrite 1 0 zeros w)
+    adds = former-view 1 0 zeros w (ap (λ (k : Geometry). k .planes) (f .live .shape))
+
     more-live : LiveAt flash more told
     more-live = record {
-      shape = unfold carried in (add-shape w b 1 0 false zeros (f .live .world) (write-bytes 1 0 zeros fits-zeros) _ (former-view 1 0 zeros w) ∙ f .live .shape);
-      world = add-live w b 1 0 false zeros (f .live .world) (write-bytes 1 0 zeros fits-zeros) (write 1 0 zeros) (write-told b 1 0 zeros) _ (former-view 1 0 zeros w);
+      shape = unfold carried in (add-shape w b 1 0 false zeros (f .live .world) (write-bytes 1 0 zeros fits-zeros) _ adds ∙ f .live .shape);
+      world = add-live w b 1 0 false zeros (f .live .world) (write-bytes 1 0 zeros fits-zeros) (write 1 0 zeros) (write-told b 1 0 zeros) _ adds;
     }
 
-    -- where a page was held, it is programmed
-    appends-one : n ≢ 0 → Appends w b (formerWrite 1 0 zeros w)
-    appends-one some =
+    -- where a page was held, it is programmed: one clean page less
+    one-less : n ≢ 0 → cleanPages w ≡ suc (cleanPages more)
+    one-less some =
         let h = f .live .world in
-        subst (Appends w b) (sym goes)
-        (page-appends w b h 1 0 false zeros (f .idle) refl (write-bytes 1 0 zeros fits-zeros) (let e = ap (λ (k : Geometry). k .logical) (f .live .shape) in omega arith) i
-        (place-found (w .state .places) 1 (h .changing .eight) open-at) (rw (place-is, f .count) few) (rw (place-is, f .count) some) (roomy (omega arith)))
+        let room : p .count < mostPages (w .state .geometry) = rw (place-is, f .count, f .live .shape) (omega (arith, most-one flash refl)) in
+        subst (λ (q : Plan). cleanPages w ≡ suc (cleanPages (after q w))) (sym goes) (append-clean w b h _ (writePlan i p 0 false zeros w)
+        (page-appends w b h 1 0 false zeros (f .idle) refl (write-bytes 1 0 zeros fits-zeros)
+        (let e = ap (λ (k : Geometry). k .logical) (f .live .shape) in omega arith) i
+        (place-found (w .state .places) 1 (h .changing .eight) open-at) room (rw (place-is, f .count) some) (roomy (omega arith))))
 
     more-clean : Is n 0 → 96 ≤ cleanPages more + (suc n - 1)
-    more-clean (inl z) = unfold carried writePlan heldOp withPlace applyOp in rw (goes, place-is, f .count, z .0) (let c = f .clean in omega arith)
-    more-clean (inr z) = let e = append-clean w b (formerWrite 1 0 zeros w) (f .live .world) (appends-one (z .0)) in let c = f .clean in omega arith
+    more-clean (inl z) = unfold carried writePlan heldOp heldState withPlace applyOp in rw (goes, place-is, f .count, z .0) (let c = f .clean in omega arith)
+    more-clean (inr z) = let e = one-less (z .0) in let c = f .clean in omega arith
+
+    -- what a programmed page leaves in the state
+    held : {A : Type 0} (of : State → A) → of (taking w) ≡ of (w .state) → of (heldState w p) ≡ of (w .state)
+    held of = held-same w of p
 
     filled-more : Filled more told (suc n)
     filled-more = record {
       live = more-live;
-      idle = unfold carried writePlan withPlace in rw goes (f .idle);
+      idle = unfold carried writePlan withPlace in rw (goes, held (λ (t : State). t .work) (unfold withLast in refl)) (f .idle);
       place = written (f .place) (nextPage w) 0 false;
-      places = unfold carried writePlan withPlace in rw (goes, at-0, f .places) refl;
+      places = unfold carried writePlan withPlace in rw (goes, held (λ (t : State). t .places) (unfold withLast in refl), at-0, f .places) refl;
       named = unfold written in f .named;
       count = unfold written in (let c = f .count in omega arith);
-      version = unfold carried writePlan withPlace in rw goes (f .version);
+      version = unfold carried writePlan withPlace in rw (goes, held (λ (t : State). t .version) (unfold withLast in refl)) (f .version);
       clean = more-clean (eqb-cases n 0);
     }
 
@@ -163,16 +180,25 @@ commit-answer : (w : World) (b : Book) → Filled w b 64 → exec (commit 1) w .
 unfolding exec carried plan planCommit markPlan
 commit-answer w b f = rw (passes w b 64 f, open-at w b 64 f, place-is w b 64 f, f .count, f .version, roomy w b 64 f (omega arith)) refl
 
-fill : (k n : ℕ) → k + n ≡ 64 → (w : World) (b : Book) → Filled w b n → (v : World) × FormerRun flash (live w) (longEvents k) (live v)
+-- nothing runs, nor after it
+commit-runs : (w : World) → runsAfter (commit 1) w [] ≡ []
+unfolding runsAfter left
+commit-runs w = either-none (refused (plan (commit 1) w .answer) && isNone (plan (commit 1) w .op))
+
+fill : (k n : ℕ) → k + n ≡ 64 → (w : World) (b : Book) → Filled w b n → (v : World) × FormerRun flash (live w []) (longEvents k) (live v [])
 fill zero n e w b f =
     let v = exec (commit 1) w .world in
     let all : n ≡ 64 = omega arith in
     let done = commit-answer w b (subst (Filled w b) all f) in
-    (v, then (step (subst (λ (m : ℕ). Step flash (live w) (called (commit 1) m) (live v)) done (call (commit 1) w (unfold fits in refl) tt))) (end (live v)))
+    let s : Step flash (live w []) (called (commit 1) (exec (commit 1) w .answer)) (live v (runsAfter (commit 1) w []))
+    = call (commit 1) w [] (unfold fits in refl) tt in
+    (v, then (step (rw (done, commit-runs w) at s)) (end (live v [])))
 fill (suc k) n e w b f =
     let few : n < 64 = omega arith in
     let r = fill k (suc n) (omega arith) (more w b n f few) (told w b n f few) (filled-more w b n f few) in
-    (r .0, then (subst (λ (m : ℕ). FormerStep flash (live w) (called (write 1 0 zeros) m) (live (more w b n f few))) (more-answer w b n f few) (wrote 1 0 zeros w fits-zeros)) (r .1))
+    let s : FormerStep flash (live w []) (called (write 1 0 zeros) (formerWrite 1 0 zeros w .answer)) (live (more w b n f few) [])
+    = wrote 1 0 zeros w [] fits-zeros in
+    (r .0, then (subst (λ (m : ℕ). FormerStep flash (live w []) (called (write 1 0 zeros) m) (live (more w b n f few) [])) (more-answer w b n f few) s) (r .1))
 
 -- ---- the begin, after a format
 format-available : availableOf (formatZones flash) ≡ 2 ∷ 3 ∷ 4 ∷ []
@@ -184,8 +210,8 @@ module _ (w : World) (s : Formatted flash w) where
   starts = formatted flash (format-zones-ok flash) w s
 
   -- what the format left in the state
-  left : {A : Type 0} (of : State → A) → of (w .state) ≡ of (withNumber (withZones (freshState flash) (formatZones flash)) 1)
-  left of = ap of (starts .state)
+  from-format : {A : Type 0} (of : State → A) → of (w .state) ≡ of (withNumber (withZones (freshState flash) (formatZones flash)) 1)
+  from-format of = ap of (starts .state)
 
   used : (b : ℕ) → dataBlock flash b ≡ true → usedIn (w .array) 32 b ≡ 0
   used = fresh-erased flash (w .array) (geometry-in flash (unfold geometryOk in refl)) (starts .fresh)
@@ -200,7 +226,9 @@ module _ (w : World) (s : Formatted flash w) where
 
   begins : planBegin 1 w ≡ record { answer = 0; op = none; map = w .map; hold = w .hold; state = withPlace (w .state) 0 (begun 1) }
   unfolding planBegin gate badId liveId onPages active find any withNumber withZones freshState
-  begins = rw (live-frame w (blank flash) (start-holds flash w s .world), formatted-idle flash w s, nothing-scanned, left (λ (t : State). t .places)) refl
+  begins =
+      rw (live-frame w (blank flash) (start-holds flash w s .here .world), formatted-idle flash w s, nothing-scanned, from-format (λ (t : State). t .places))
+      refl
 
   begin-answer : exec (begin 1) w .answer ≡ 0
   unfolding exec carried plan
@@ -213,27 +241,33 @@ module _ (w : World) (s : Formatted flash w) where
   abbrev begun-book : Book
   begun-book = tell (blank flash) (called (begin 1) (exec (begin 1) w .answer))
 
-  begin-step : Step flash (live w) (called (begin 1) (exec (begin 1) w .answer)) (live begun-world)
-  begin-step = call (begin 1) w (unfold fits in refl) tt
+  begin-runs : runsAfter (begin 1) w [] ≡ []
+  unfolding runsAfter left
+  begin-runs = either-none (refused (plan (begin 1) w .answer) && isNone (plan (begin 1) w .op))
+
+  begin-step : Step flash (live w []) (called (begin 1) (exec (begin 1) w .answer)) (live begun-world [])
+  begin-step = subst (λ (rs : List Running). Step flash (live w []) (called (begin 1) (exec (begin 1) w .answer)) (live begun-world rs)) begin-runs
+      (call (begin 1) w [] (unfold fits in refl) tt)
 
   filled-none : Filled begun-world begun-book 0
   unfolding exec carried plan withPlace applyOp
   filled-none = record {
-    live = step-holds flash (blank flash) (live w) _ (live begun-world) begin-step (start-holds flash w s);
+    live = step-holds flash (blank flash) (live w []) _ (live begun-world []) begin-step (start-holds flash w s) .here;
     idle = rw (begins, formatted-idle flash w s) refl;
     place = begun 1;
-    places = unfold withNumber withZones freshState in rw (begins, left (λ (t : State). t .places)) refl;
+    places = unfold withNumber withZones freshState in rw (begins, from-format (λ (t : State). t .places)) refl;
     named = unfold begun in refl;
     count = unfold begun in refl;
-    version = unfold withNumber withZones freshState in rw (begins, left (λ (t : State). t .version)) refl;
+    version = unfold withNumber withZones freshState in rw (begins, from-format (λ (t : State). t .version)) refl;
     clean = rw begins (let e = clean-blocks in omega arith);
   }
 
 -- ---- the fact
-pub some-64 : (w : World) × (Formatted flash w × ((v : World) × FormerRun flash (live w) (called (begin 1) 0 ∷ longEvents 64) (live v)))
+pub some-64 : (w : World) × (Formatted flash w × ((v : World) × FormerRun flash (live w []) (called (begin 1) 0 ∷ longEvents 64) (live v [])))
 some-64 =
     let f = some-formatted flash (unfold geometryOk in refl) in
     let w = f .0 in
     let s = f .1 in
     let r = fill 64 0 refl (begun-world w s) (begun-book w s) (filled-none w s) in
-    (w, (s, (r .0, then (step (subst (λ (m : ℕ). Step flash (live w) (called (begin 1) m) (live (begun-world w s))) (begin-answer w s) (begin-step w s))) (r .1))))
+    let t : Step flash (live w []) (called (begin 1) 0) (live (begun-world w s) []) = rw (begin-answer w s) at (begin-step w s) in
+    (w, (s, (r .0, then (step t) (r .1))))

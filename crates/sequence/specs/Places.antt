@@ -8,10 +8,10 @@ use mathlib.Core.List.{List, [], _∷_}
 use lib.ListN.{length, set, getD, length-set}
 use lib.Seq.{getD-set-same, getD-set-other}
 use lib.Dec.{eqb, leb}
-use borrow.Author.Tests.{eqb-true, eqb-false, ne-eqb, leb-false, not-true}
+use borrow.Author.Tests.{eqb-true, eqb-false, ne-eqb, leb-false, not-true, le-leb}
 use Rattle.model.specs.Lists.{all, any, allTails, find}
 use Rattle.model.specs.Zones.{hasId, active}
-use Rattle.model.specs.Frame.{noPlace, freePlace, badId, placeOk, alone, placesOk}
+use Rattle.model.specs.Frame.{noPlace, freePlace, badId, mostPages, placeOk, alone, placesOk}
 use Rattle.model.specs.Transactions.{placeOf, begun}
 use Rattle.model.specs.declared.Geometry.{Geometry}
 use Rattle.model.specs.declared.Place.{Place}
@@ -42,8 +42,12 @@ unfolding placesOk allTails
 places-ok g [] h = refl
 places-ok g (p ∷ ps) h =
     and-both (placeOk g p && alone p ps) _
-    (and-both (placeOk g p) (alone p ps) (h .ok 0 (omega arith)) (apart-alone p ps (λ n j l. h .apart 0 (suc j) (omega arith) (omega arith) (λ q. absurd (omega arith)) n)))
-    (places-ok g ps (record { ok = λ i l. h .ok (suc i) (omega arith); apart = λ i j l k n. h .apart (suc i) (suc j) (omega arith) (omega arith) (λ q. n (omega arith)) }))
+    (and-both (placeOk g p) (alone p ps) (h .ok 0 (omega arith))
+    (apart-alone p ps (λ n j l. h .apart 0 (suc j) (omega arith) (omega arith) (λ q. absurd (omega arith)) n)))
+    (places-ok g ps (record {
+      ok = λ i l. h .ok (suc i) (omega arith);
+      apart = λ i j l k n. h .apart (suc i) (suc j) (omega arith) (omega arith) (λ q. n (omega arith));
+    }))
 
 -- one place changes
 pub places-set : (g : Geometry) (ps : List Place) (i : ℕ) (p : Place) → PlacesGood g ps → placeOk g p ≡ true
@@ -63,7 +67,8 @@ places-set g ps i p h o a = record {
     ok-at j l (inl q) = rw (same j (q .0) l) o
     ok-at j l (inr q) = rw (other j (q .0)) (h .ok j l)
 
-    apart-at : (j k : ℕ) → j < length ps → k < length ps → j ≢ k → Is j i → Is k i → placeAt (set ps i p) j .id ≢ 0 → placeAt (set ps i p) k .id ≢ placeAt (set ps i p) j .id
+    apart-at : (j k : ℕ) → j < length ps → k < length ps → j ≢ k → Is j i → Is k i → placeAt (set ps i p) j .id ≢ 0
+        → placeAt (set ps i p) k .id ≢ placeAt (set ps i p) j .id
     apart-at j k l m n (inl q) (inl r) = absurd (n (q .0 ∙ sym (r .0)))
     apart-at j k l m n (inl q) (inr r) = rw (same j (q .0) l, other k (r .0)) (λ z. a z k m (r .0))
     apart-at j k l m n (inr q) (inl r) = rw (same k (r .0) m, other j (q .0)) (λ z e. a (λ y. z (sym e ∙ y)) j l (q .0) (sym e))
@@ -72,11 +77,11 @@ places-set g ps i p h o a = record {
 -- a free place and a begun one
 pub free-ok : (g : Geometry) → placeOk g freePlace ≡ true
 unfolding placeOk badId all
-free-ok g = refl
+free-ok g = rw (le-leb 0 (mostPages g) (omega arith))
 
 pub begun-ok : (g : Geometry) (id : ℕ) → badId id ≡ false → placeOk g (begun id) ≡ true
 unfolding placeOk begun all
-begun-ok g id h = rw h refl
+begun-ok g id h = rw (h, le-leb 0 (mostPages g) (omega arith))
 
 -- ---- where an identifier is
 -- the place of an active identifier
@@ -104,7 +109,8 @@ inactive ps id n h j l =
     eqb-false (placeAt ps j .id) id (not-true (hasId id (placeAt ps j)) (all-at (λ (q : Place). not (hasId id q)) ps j noPlace (none-all (hasId id) ps k) l))
 
 -- the lowest free place
-pub free-found : (ps : List Place) → length ps ≡ 8 → leb 8 (find (hasId 0) ps) ≡ false → (find (hasId 0) ps < length ps) × (placeAt ps (find (hasId 0) ps) .id ≡ 0)
+pub free-found : (ps : List Place) → length ps ≡ 8 → leb 8 (find (hasId 0) ps) ≡ false
+    → (find (hasId 0) ps < length ps) × (placeAt ps (find (hasId 0) ps) .id ≡ 0)
 free-found ps e h =
     let l : find (hasId 0) ps < length ps = omega (arith, leb-false 8 (find (hasId 0) ps) h) in
     (l, eqb-true _ _ (find-passes (hasId 0) ps noPlace l))

@@ -17,7 +17,7 @@ use Rattle.model.specs.Answers.{refused}
 use Rattle.model.specs.World.{World, Plan, erase, applyOp, cutOp}
 use Rattle.model.specs.Frame.{isIdle}
 use Rattle.model.specs.Checkpoint.{Found, at}
-use Rattle.model.specs.Transactions.{cleanPages, nextPage, spent, dataBytes, loneMap, withVersion}
+use Rattle.model.specs.Transactions.{cleanPages, nextPage, spent, dataBytes, loneMap, withVersion, withLast}
 use Rattle.model.specs.Strides.{withWork, withZones, isReclaim, mappedIn, picked, lowestFrom, copyStride, freeStride, reclaimStride, planReclaim}
 use Rattle.model.specs.Commands.{reclaim, plan, carried}
 use Rattle.model.specs.Book.{Book, entering, changing}
@@ -48,7 +48,8 @@ use Rattle.sequence.specs.Places.{placeAt}
 use Rattle.sequence.specs.Sound.{Sound, Stored}
 use Rattle.sequence.specs.Live.{Live, live-range, scanned}
 use Rattle.sequence.specs.View.{View, no, yes, view-gate, view-cond, Keeps, done-live, more-live, view-keeps}
-use Rattle.sequence.specs.Append.{appended, next-is-data, next-mapped, next-blank, next-free, append-ok, append-whole, append-data, append-keeps, append-tidy, append-front, append-sound, append-contents, Appends, appends}
+use Rattle.sequence.specs.Append.{appended, next-is-data, next-mapped, next-blank, next-free, append-ok, append-whole, append-data, append-keeps}
+use Rattle.sequence.specs.Append.{append-tidy, append-front, append-sound, append-contents, Appends, appends}
 use Rattle.sequence.specs.Lone.{changing-grow, laid-still, loneSpare, loneFits, lone-logged, lone-opens}
 use Rattle.sequence.specs.Spared.{Spared, spared-changing, spared-sound, block-spares}
 
@@ -77,7 +78,8 @@ stride-view w v calm′ = go (decide (refused (reclaimStride w (picked w) .answe
         let m : due ≢ 0 = eqb-false due 0 z in
         yes _ (copies c calm′ h (omega arith))))
 
-    go : (refused (reclaimStride w (picked w) .answer) ≡ true) ⊎ (refused (reclaimStride w (picked w) .answer) ≡ false) → View w (Reclaims w) (reclaimStride w (picked w))
+    go : (refused (reclaimStride w (picked w) .answer) ≡ true) ⊎ (refused (reclaimStride w (picked w) .answer) ≡ false)
+        → View w (Reclaims w) (reclaimStride w (picked w))
     go (inl r) = subst (View w (Reclaims w)) (sym (keeps-block w (picked w) .same r)) (no _ r)
     go (inr r) = let h = stride-going w v r in going (h .0) (h .1)
 
@@ -106,7 +108,9 @@ module _ (w : World) (b : Book) (h : Live w b) (c : ℕ) (on : GoingOn w c) wher
   xs = w .array
 
   few : Fewest (w .state .zones) (w .map) (g .pages) 2 (2 + (g .blocks - 2)) c
-  few = subst (λ (f : Found). Picked (w .state .zones) (w .map) (g .pages) 2 (2 + (g .blocks - 2)) f) (on .pick) (picked-is (w .state .zones) (w .map) (g .pages) 2 (g .blocks - 2))
+  few =
+      subst (λ (f : Found). Picked (w .state .zones) (w .map) (g .pages) 2 (2 + (g .blocks - 2)) f) (on .pick)
+      (picked-is (w .state .zones) (w .map) (g .pages) 2 (g .blocks - 2))
 
   unlisted : Unlisted (w .state .zones) c
   unlisted = going-unlisted g (w .state .zones) (w .map) c (on .pick)
@@ -178,18 +182,24 @@ module _ (w : World) (b : Book) (h : Live w b) (c : ℕ) (on : GoingOn w c) wher
     ys = appended w b h clean d s long small fit
 
     copy-sound : Sound g ys (h .saved) (loneMap lpn w) (w .state .version + 1) (b .pages)
-    copy-sound = append-sound w b h clean d s long small fit (loneMap lpn w) (w .state .version + 1) (b .pages) (lone-logged w b h clean lpn d long small logical-low more)
-        (good-set g (w .map) lpn k (h .sound .good) (next-is-data w b h clean d s long small fit) (next-free w b h clean d s long small fit)) (length-set (w .map) lpn k ∙ h .sound .wide)
-        (contents-copy ys (w .map) (b .pages) lpn k low (next-mapped w b h clean d s long small fit) (append-whole w b h clean d s long small fit) (rw leads j-mapped)
-        (append-data w b h clean d s long small fit ∙ sym (rw leads (data-same xs ys j j (append-keeps w b h clean d s long small fit j j-whole)))) (append-contents w b h clean d s long small fit))
+    copy-sound =
+        append-sound w b h clean d s long small fit (loneMap lpn w) (w .state .version + 1) (b .pages)
+        (lone-logged w b h clean lpn d long small logical-low more)
+        (good-set g (w .map) lpn k (h .sound .good) (next-is-data w b h clean d s long small fit) (next-free w b h clean d s long small fit))
+        (length-set (w .map) lpn k ∙ h .sound .wide)
+        (contents-copy ys (w .map) (b .pages) lpn k low (next-mapped w b h clean d s long small fit) (append-whole w b h clean d s long small fit)
+        (rw leads j-mapped)
+        (append-data w b h clean d s long small fit ∙ sym (rw leads (data-same xs ys j j (append-keeps w b h clean d s long small fit j j-whole))))
+        (append-contents w b h clean d s long small fit))
         (omega (arith, ltb-false 4294967294 (w .state .version + 1) more))
 
     pub copy-live : Live (carried (copyStride j w) w .world) b
-    unfolding carried copyStride withWork withVersion dataBytes
+    unfolding carried copyStride withWork withVersion withLast dataBytes
     copy-live = record {
       saved = h .saved;
       sound = copy-sound;
-      kept = kept-away w _ (h .saved) (h .kept) calm′ refl (record { geometry = refl; checkpoint = refl; front = refl; first = refl }) (append-front w b h clean d s long small fit);
+      kept = kept-away w _ (h .saved) (h .kept) calm′ refl (record { geometry = refl; checkpoint = refl; front = refl; first = refl })
+          (append-front w b h clean d s long small fit);
       grown = h .grown;
       tidy = append-tidy w b h clean d s long small fit;
       hold = h .hold;
@@ -201,13 +211,16 @@ module _ (w : World) (b : Book) (h : Live w b) (c : ℕ) (on : GoingOn w c) wher
 
     -- "Each stride picks anew, in a sequence the same block", with one copy less to make
     pub copy-going : GoingOn (carried (copyStride j w) w .world) c
-    unfolding carried copyStride withWork withVersion dataBytes
-    copy-going = going-copy g (w .state .zones) xs ys (w .map) (w .state .version) c on (h .tidy) some
-        (program-other (g .pages) xs k (pageBytes d s) (append-ok w b h clean d s long small fit .fits)) (whole-not-blank ys k (append-whole w b h clean d s long small fit))
+    unfolding carried copyStride withWork withVersion withLast dataBytes
+    copy-going = going-copy g (w .state .zones) (w .state .last) xs ys (w .map) (w .state .version) c on (h .tidy) some
+        (program-other (g .pages) xs k (pageBytes d s) (append-ok w b h clean d s long small fit .fits))
+        (whole-not-blank ys k (append-whole w b h clean d s long small fit))
 
     -- it appends the copy
-    pub copy-appends : Appends w b (copyStride j w)
-    copy-appends = appends w b h clean d s long small fit (copyStride j w) (unfold copyStride dataBytes in refl) (unfold copyStride withWork withVersion in refl) (unfold copyStride withWork withVersion in refl)
+    pub copy-appends : Appends w b h s (copyStride j w)
+    copy-appends =
+        appends w b h clean d s long small fit (copyStride j w) (unfold copyStride dataBytes in refl) (unfold copyStride withWork withVersion withLast in refl)
+        (unfold copyStride withWork withVersion withLast in refl)
 
   -- ---- the erase
   module _ (calm′ : calm (w .state .work) ≡ true) (zero′ : mappedIn (w .map) (g .pages) c ≡ 0) where
@@ -218,7 +231,8 @@ module _ (w : World) (b : Book) (h : Live w b) (c : ℕ) (on : GoingOn w c) wher
         where-not : (k : ℕ) → inBlock (g .pages) c k ≡ false → Outside (g .pages) c k
         where-not k e = go (decide (leb (c * g .pages) k)) (decide (ltb k (c * g .pages + g .pages)))
           where
-            go : (leb (c * g .pages) k ≡ true) ⊎ (leb (c * g .pages) k ≡ false) → (ltb k (c * g .pages + g .pages) ≡ true) ⊎ (ltb k (c * g .pages + g .pages) ≡ false) → Outside (g .pages) c k
+            go : (leb (c * g .pages) k ≡ true) ⊎ (leb (c * g .pages) k ≡ false)
+                → (ltb k (c * g .pages + g .pages) ≡ true) ⊎ (ltb k (c * g .pages + g .pages) ≡ false) → Outside (g .pages) c k
             go (inr a) t = inl (leb-false (c * g .pages) k a)
             go (inl a) (inr t) = inr (ltb-false k (c * g .pages + g .pages) t)
             go (inl a) (inl t) = clash (rw (a, t) refl) e
@@ -239,10 +253,13 @@ module _ (w : World) (b : Book) (h : Live w b) (c : ℕ) (on : GoingOn w c) wher
     unfolding carried freeStride withWork withZones
     free-live = record {
       saved = h .saved;
-      sound = spared-sound g xs erased (w .state .zones) (w .map) spared (h .saved) (w .state .version) (b .pages) (h .grown) (length-apply (g .pages) (erase c) xs inside)
+      sound =
+          spared-sound g xs erased (w .state .zones) (w .map) spared (h .saved) (w .state .version) (b .pages) (h .grown)
+          (length-apply (g .pages) (erase c) xs inside)
           (bytes-apply (g .pages) (erase c) xs (h .sound .bytes)) (leans-apply (g .pages) (erase c) xs inside (h .sound .lean))
           (front-away g xs (h .saved) (h .sound .front) erased (front-same erased (erase-other (g .pages) xs c inside))) (h .sound);
-      kept = kept-away w _ (h .saved) (h .kept) calm′ refl (record { geometry = refl; checkpoint = refl; front = refl; first = refl }) (front-same erased (erase-other (g .pages) xs c inside));
+      kept = kept-away w _ (h .saved) (h .kept) calm′ refl (record { geometry = refl; checkpoint = refl; front = refl; first = refl })
+          (front-same erased (erase-other (g .pages) xs c inside));
       grown = grown-freed (h .saved .zones) (w .state .zones) c (h .grown);
       tidy = tidy-freed g (w .state .zones) c unlisted is-data xs (h .tidy) inside;
       hold = h .hold;
@@ -258,12 +275,14 @@ module _ (w : World) (b : Book) (h : Live w b) (c : ℕ) (on : GoingOn w c) wher
     pub free-cut : (lets : List ℕ) → Stored g (cutOp (g .pages) (erase c) lets xs) (b .pages)
     free-cut lets =
         let zs = cutOp (g .pages) (erase c) lets xs in
-        let sp = block-spares g xs zs (w .state .zones) (w .map) c unlisted (cut-erase-other (g .pages) xs c inside lets) (cut-erase-others (g .pages) xs c inside lets) outside in
+        let sp = block-spares g xs zs (w .state .zones) (w .map) c unlisted (cut-erase-other (g .pages) xs c inside lets)
+        (cut-erase-others (g .pages) xs c inside lets) outside in
         record {
           saved = h .saved;
           map = w .map;
           version = w .state .version;
-          sound = spared-sound g xs zs (w .state .zones) (w .map) sp (h .saved) (w .state .version) (b .pages) (h .grown) (length-cut (g .pages) (erase c) lets xs)
+          sound =
+              spared-sound g xs zs (w .state .zones) (w .map) sp (h .saved) (w .state .version) (b .pages) (h .grown) (length-cut (g .pages) (erase c) lets xs)
               (bytes-cut (g .pages) (erase c) lets xs (h .sound .bytes)) (leans-cut (g .pages) (erase c) lets xs (h .sound .bytes) inside (h .sound .lean))
               (front-away g xs (h .saved) (h .sound .front) zs (front-same zs (cut-erase-other (g .pages) xs c inside lets))) (h .sound);
         }

@@ -10,8 +10,10 @@ use Rattle.model.specs.World.{World, Op, none, Plan, refuse, applyOp}
 use Rattle.model.specs.Frame.{lentOk}
 use Rattle.model.specs.Checkpoint.{Found, nothing, at, newest, loadOk}
 use Rattle.model.specs.Recovery.{pagesGood}
-use Rattle.model.specs.Transactions.{unless, planBegin, addPlan, planWrite, planDrop, planLone, planCommit, planAbort, writePlan, lonePlan, markPlan, forgetPlan}
-use Rattle.model.specs.Strides.{planCheckpoint, planReclaim, planFormat, mapStride, zoneStride, pageStride, otherStride, firstStride, checkpointStride, copyStride, freeStride, reclaimStride, formatMore, formatLast, formatStride}
+use Rattle.model.specs.Transactions.{unless, planBegin, addPlan, planWrite, planDrop, planLone, planCommit}
+use Rattle.model.specs.Transactions.{planAbort, writePlan, lonePlan, markPlan, forgetPlan}
+use Rattle.model.specs.Strides.{planCheckpoint, planReclaim, planFormat, mapStride, zoneStride, pageStride, otherStride, firstStride}
+use Rattle.model.specs.Strides.{checkpointStride, copyStride, freeStride, reclaimStride, formatMore, formatLast, formatStride}
 use Rattle.model.specs.Recover.{planRecover, recoverFrom, recoverPlan, entriesAt, zonesAt, scannedAt}
 use Rattle.model.specs.Commands.{Call, format, recover, begin, write, dropPage, lone, commit, abort, read, checkpoint, reclaim, plan, carried, exec}
 use Rattle.model.specs.declared.Geometry.{Geometry}
@@ -131,7 +133,8 @@ read-same lpn w = refl
 from-none : (g : Geometry) (w : World) (f : Found) → recoverFrom g w f .op ≡ none
 unfolding recoverFrom recoverPlan
 from-none g w nothing = refl
-from-none g w (at k) = go (not (loadOk g (entriesAt g (w .array) k) (zonesAt g (w .array) k))) (not (pagesGood (g .logical) (scannedAt g (w .array) k)))
+from-none g w (at k) =
+    go (not (loadOk g (entriesAt g (w .array) k) (zonesAt g (w .array) k))) (not (pagesGood (g .planes) (g .logical) (scannedAt g (w .array) k)))
   where
     go : (s t : Bool) → cond s (refuse w 3) (cond t (refuse w 4) (recoverPlan g k w)) .op ≡ none
     go true t = refl

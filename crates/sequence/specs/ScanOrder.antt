@@ -1,25 +1,27 @@
--- "in scan order, which on a layer's own array is write order": a data page that a call programs is scanned after all that were scanned before,
--- and no call changes the order of the others.
+-- "in scan order, which on a layer's own array is write order", on one plane: a data page that a call programs is scanned after all that were scanned
+-- before, and no call changes the order of the others.
 use mathlib.Core.Path.{_≡_, refl, sym, ap, _∙_, subst}
-use mathlib.Core.Logic.{inl, inr}
+use mathlib.Core.Logic.{inl, inr, _≢_}
 use mathlib.Core.Bool.{Bool, true, false, false≢true}
 use Prim.Native.Nat.{ℕ}
 use native.Mathlib.Omega.{arith}
 use mathlib.Core.List.{List, [], _∷_, _++_, append-nil}
 use lib.Dec.{ltb}
+use borrow.Author.Tests.{eq-eqb}
 use Rattle.model.specs.Lists.{keep}
 use Rattle.model.specs.Bytes.{bytes}
 use Rattle.model.specs.Page.{spareOf}
 use Rattle.model.specs.Geometry.{dataPage}
-use Rattle.model.specs.Zones.{Entry, entryOf, scanOf}
+use Rattle.model.specs.Zones.{Entry, entryOf}
 use Rattle.model.specs.World.{World, Op, none, program, erase, programs, Plan, applyOp}
-use Rattle.model.specs.Transactions.{placeOf, nextPage, heldOp, withPlace, writePlan, gone, lonePlan, forgetPlan}
+use Rattle.model.specs.Transactions.{placeOf, nextPage, heldOp, withPlace, writePlan, gone, lonePlan, forgetPlan, heldState}
 use Rattle.model.specs.Strides.{planCheckpoint, freeStride}
 use Rattle.model.specs.Commands.{Call, format, recover, begin, write, dropPage, lone, commit, abort, read, checkpoint, reclaim, plan, carried, exec}
 use Rattle.model.specs.Book.{Book}
 use Rattle.model.specs.Sequence.{fits, Allowed}
 use Rattle.model.specs.declared.Geometry.{Geometry}
 use Rattle.model.specs.declared.Place.{Place}
+use Rattle.model.specs.declared.Spare.{Spare}
 use Rattle.arrays.specs.Tests.{Is, eqb-cases, and-right}
 use Rattle.arrays.specs.Bytelist.{Bytes, bytes-true}
 use Rattle.arrays.specs.Ranges.{page-least}
@@ -79,31 +81,39 @@ order-none w v (erase b) f e = record { last = tt; rest = more-behind [] (same-s
 -- a page of the front is no data page
 order-front : (w v : World) (o : Op) → InFront (w .state .geometry .pages) o → Sublist (scanned v) (scanned w) → InOrder w o v
 order-front w v none f s = record { last = tt; rest = more-behind [] s }
-order-front w v (program k new) f s = record { last = λ d. absurd (omega (arith, page-least (w .state .geometry) k d)); rest = more-behind (added (w .state .geometry) (program k new)) s }
+order-front w v (program k new) f s = record {
+  last = λ d. absurd (omega (arith, page-least (w .state .geometry) k d));
+  rest = more-behind (added (w .state .geometry) (program k new)) s;
+}
 order-front w v (erase b) f s = record { last = tt; rest = more-behind [] s }
 
 -- a data page appended
-order-append : (w : World) (b : Book) (p : Plan) → Live w b → Appends w b p → InOrder w (p .op) (after p w)
-order-append w b p h a =
+order-append : (w : World) (b : Book) (s : Spare) (p : Plan) (h : Live w b) → w .state .geometry .planes ≢ 2 → Appends w b h s p → InOrder w (p .op) (after p w)
+order-append w b s p h one a =
     subst (λ (o : Op). InOrder w o (after p w)) (sym (a .does))
-    (record { last = λ d. appended; rest = rw (next-data g (w .array) (w .state .zones) (h .tidy) (a .clean)) (same-sub appended) })
+    (record { last = λ d. appended; rest = rw (next-data g (w .array) (w .state .zones) (w .state .last) (h .tidy) (a .clean)) (same-sub appended) })
   where
     g : Geometry
     g = w .state .geometry
 
     appended : scanned (after p w) ≡ scanned w ++ (entryOf (nextPage w) (spareOf (a .new)) ∷ [])
-    appended = unfold carried in rw (a .does, a .geometry, a .zones) (scan-order-is-write-order g (w .array) (w .state .zones) (h .tidy) (a .clean) (g .pages) (a .new) (a .ok))
+    appended =
+        unfold carried in rw (a .does, a .geometry, a .zones)
+        (scan-order-is-write-order g (w .array) (w .state .zones) (w .state .last) (h .tidy) (a .clean) (g .pages) (a .new) (a .ok) one)
 
 -- ---- by the command
 -- a recover scans what the newest checkpoint lists, and those are the blocks that are listed
 recover-scan : (w : World) (b : Book) → Live w b → scanned (exec (recover (w .state .geometry)) w .world) ≡ scanned w
-recover-scan w b h = rw (sound-recovers g (w .array) (h .saved) (w .map) (w .state .version) (b .pages) (h .sound) (w .map) (w .hold) (w .state) (h .sound .wide) (h .hold)) (unfold stateOf in
-    sym (grown-scan (h .saved .zones) (plain (h .saved .zones)) (grown-plain (h .saved .zones)) (w .array) (g .pages)) ∙ grown-scan (h .saved .zones) (w .state .zones) (h .grown) (w .array) (g .pages))
+recover-scan w b h =
+    rw (sound-recovers g (w .array) (h .saved) (w .map) (w .state .version) (b .pages) (h .sound) (w .map) (w .hold) (w .state) (h .sound .wide) (h .hold))
+    (unfold stateOf in
+    sym (grown-scan (h .saved .zones) (plain (h .saved .zones)) (grown-plain (h .saved .zones)) (w .array) (g .pages)) ∙ grown-scan (h .saved .zones)
+    (w .state .zones) (h .grown) (w .array) (g .pages))
   where
     g : Geometry
     g = w .state .geometry
 
-module _ (w : World) (b : Book) (h : Live w b) where
+module _ (w : World) (b : Book) (h : Live w b) (one : w .state .geometry .planes ≢ 2) where
   -- what is claimed of a call
   abbrev Orders : Call → Type 0
   Orders c = InOrder w (plan c w .op) (exec c w .world)
@@ -121,10 +131,12 @@ module _ (w : World) (b : Book) (h : Live w b) where
   unfolding plan fits
   lone-orders lpn d f = view-orders (lone lpn d) (Lones w lpn d) (lone-view lpn d w) (λ p v.
       let u : Lones w lpn d (lonePlan lpn d w) = subst (Lones w lpn d) (v .is) v in
-      subst (λ (q : Plan). InOrder w (q .op) (after q w)) (sym (v .is)) (order-append w b (lonePlan lpn d w) h (lone-appends w b lpn d h (bytes-true d (and-right (ltb lpn 65536) (bytes d) f)) u)))
+      subst (λ (q : Plan). InOrder w (q .op) (after q w)) (sym (v .is))
+      (order-append w b _ (lonePlan lpn d w) h one (lone-appends w b lpn d h (bytes-true d (and-right (ltb lpn 65536) (bytes d) f)) u)))
 
   forget-orders : (i : ℕ) → InOrder w (forgetPlan i w .op) (after (forgetPlan i w) w)
-  forget-orders i = order-none w (after (forgetPlan i w) w) (forgetPlan i w .op) (unfold forgetPlan in refl) (unfold carried forgetPlan withPlace applyOp in refl)
+  forget-orders i =
+      order-none w (after (forgetPlan i w) w) (forgetPlan i w .op) (unfold forgetPlan in refl) (unfold carried forgetPlan withPlace applyOp in refl)
 
   commit-orders : (id : ℕ) → Orders (commit id)
   unfolding plan
@@ -133,11 +145,13 @@ module _ (w : World) (b : Book) (h : Live w b) where
       go : (p : Plan) → Commits w id p → InOrder w (p .op) (after p w)
       go p (forgets idle found zero) = forget-orders (placeOf (w .state .places) id)
       go p (marks idle found many more short) =
-          order-append w b p h (mark-appends w b h id (placeOf (w .state .places) id) idle (place-found (w .state .places) id (h .changing .eight) found) many more short)
+          order-append w b _ p h one (mark-appends w b h id (placeOf (w .state .places) id) idle (place-found (w .state .places) id (h .changing .eight) found)
+          many more short)
 
   add-orders : (c : Call) (id lpn : ℕ) (drop : Bool) (d : List ℕ) → Bytes d → View w (WritesTo w id lpn drop d) (plan c w) → Orders c
   add-orders c id lpn drop d small v = view-orders c (WritesTo w id lpn drop d) v (λ p u.
-      subst (λ (q : Plan). InOrder w (q .op) (after q w)) (sym (u .is)) (go u (eqb-cases (placeAt (w .state .places) (placeOf (w .state .places) id) .count) 0)))
+      subst (λ (q : Plan). InOrder w (q .op) (after q w)) (sym (u .is))
+      (go u (eqb-cases (placeAt (w .state .places) (placeOf (w .state .places) id) .count) 0)))
     where
       i : ℕ
       i = placeOf (w .state .places) id
@@ -145,14 +159,14 @@ module _ (w : World) (b : Book) (h : Live w b) where
       p : Place
       p = placeAt (w .state .places) i
 
-      first : writePlan i p lpn drop d w .op ≡ none → scanned (after (writePlan i p lpn drop d w) w) ≡ scanned w
-      first n = unfold carried writePlan withPlace applyOp in ap (λ (o : Op). scanOf (applyOp (w .state .geometry .pages) o (w .array)) (w .state .geometry .pages) (w .state .zones)) n
+      first : p .count ≡ 0 → scanned (after (writePlan i p lpn drop d w) w) ≡ scanned w
+      first z = unfold carried writePlan heldOp heldState withPlace applyOp in rw (eq-eqb (p .count) 0 z)
 
       go : {q : Plan} → WritesTo w id lpn drop d q → Is (p .count) 0 → InOrder w (writePlan i p lpn drop d w .op) (after (writePlan i p lpn drop d w) w)
       go u (inl z) =
           let n : writePlan i p lpn drop d w .op ≡ none = unfold writePlan heldOp in rw (z .1) in
-          order-none w (after (writePlan i p lpn drop d w) w) (writePlan i p lpn drop d w .op) (ap programs n) (first n)
-      go u (inr z) = order-append w b (writePlan i p lpn drop d w) h (page-appends w b h id lpn drop d (u .idle) (u .long) small (u .low) i
+          order-none w (after (writePlan i p lpn drop d w) w) (writePlan i p lpn drop d w .op) (ap programs n) (first (z .0))
+      go u (inr z) = order-append w b _ (writePlan i p lpn drop d w) h one (page-appends w b h id lpn drop d (u .idle) (u .long) small (u .low) i
           (place-found (w .state .places) id (h .changing .eight) (u .begun)) (u .room) (z .0) (u .clean (z .0)))
 
   write-orders : (id lpn : ℕ) (d : List ℕ) → fits (write id lpn d) ≡ true → Orders (write id lpn d)
@@ -172,14 +186,14 @@ module _ (w : World) (b : Book) (h : Live w b) where
   unfolding plan exec
   checkpoint-orders =
       let s = checkpoint-stride w (h .saved) (h .kept) in
-      order-front w (exec checkpoint w .world) (planCheckpoint w .op) (stride-in-front w (planCheckpoint w) s) (stride-scan w b h (planCheckpoint w) s)
+      order-front w (exec checkpoint w .world) (planCheckpoint w .op) (stride-in-front w (planCheckpoint w) s) (stride-scan w b h one (planCheckpoint w) s)
 
   reclaim-orders : Orders reclaim
   unfolding plan
   reclaim-orders = view-orders reclaim (Reclaims w) (reclaim-view w (h .sound .last)) go
     where
       go : (p : Plan) → Reclaims w p → InOrder w (p .op) (after p w)
-      go p (copies c calm on some) = order-append w b p h (copy-appends w b h c on calm some)
+      go p (copies c calm on some) = order-append w b _ p h one (copy-appends w b h c on calm some)
       go p (frees c calm on zero) = order-none w (after p w) (p .op) (unfold freeStride in refl) (free-scan w b h c on calm zero)
 
   -- ---- the fact
@@ -187,14 +201,17 @@ module _ (w : World) (b : Book) (h : Live w b) where
   unfolding plan
   call-orders (format k) f a =
       let e = keeps-plan w (format k) .same a in
-      order-none w (exec (format k) w .world) (plan (format k) w .op) (ap (λ (p : Plan). programs (p .op)) e) (ap scanned (refused-same w (format k) (unfold exec carried in a)))
+      order-none w (exec (format k) w .world) (plan (format k) w .op) (ap (λ (p : Plan). programs (p .op)) e)
+      (ap scanned (refused-same w (format k) (unfold exec carried in a)))
   call-orders (recover k) f a = order-none w (exec (recover k) w .world) (plan (recover k) w .op) (ap programs (recover-none k w)) (rw a (recover-scan w b h))
   call-orders (begin id) f a = begin-orders id
   call-orders (write id lpn d) f a = write-orders id lpn d f
   call-orders (dropPage id lpn) f a = drop-orders id lpn
   call-orders (lone lpn d) f a = lone-orders lpn d f
   call-orders (commit id) f a = commit-orders id
-  call-orders (abort id) f a = view-orders (abort id) (Aborts w id) (abort-view id w) (λ p v. subst (λ (q : Plan). InOrder w (q .op) (after q w)) (sym (v .is)) (forget-orders (placeOf (w .state .places) id)))
+  call-orders (abort id) f a =
+      view-orders (abort id) (Aborts w id) (abort-view id w)
+      (λ p v. subst (λ (q : Plan). InOrder w (q .op) (after q w)) (sym (v .is)) (forget-orders (placeOf (w .state .places) id)))
   call-orders (read lpn) f a = order-none w (exec (read lpn) w .world) none refl (ap scanned (read-same lpn w))
   call-orders checkpoint f a = checkpoint-orders
   call-orders reclaim f a = reclaim-orders

@@ -21,7 +21,7 @@ use Rattle.arrays.specs.Arrays.{Leans}
 use Rattle.front.specs.Written.{Saved, Sane}
 use Rattle.front.specs.Front.{Front}
 use Rattle.front.specs.Recovered.{stateOf, front-state, front-redone, recover-done}
-use Rattle.scanlog.specs.Logged.{Logged}
+use Rattle.scanlog.specs.Logged.{Logged, logged-passes}
 use Rattle.scanlog.specs.Tidy.{Tidy}
 use Rattle.sequence.specs.Maps.{MapGood}
 use Rattle.sequence.specs.Contents.{Contents}
@@ -35,7 +35,7 @@ pub record Sound (g : Geometry) (xs : List ℕ) (c : Saved) (map : List ℕ) (ve
   pub front : Front g xs c
   pub sane : Sane g c
   pub tidy : Tidy g xs (c .zones)
-  pub logged : Logged (g .logical) (c .version) (c .map) (scanOf xs (g .pages) (c .zones)) map version
+  pub logged : Logged (g .planes) (g .logical) (c .version) (c .map) (scanOf xs (g .pages) (c .zones)) map version
   pub good : MapGood g map
   pub wide : length map ≡ g .logical
   pub contents : Contents xs map ps
@@ -71,5 +71,6 @@ module _ (g : Geometry) (xs : List ℕ) (c : Saved) (map : List ℕ) (version : 
       → exec (recover g) (handed xs m hold s) ≡ record { answer = 0; world = handed xs map hold recovered }
   unfolding exec plan carried recoverPlan applyOp
   sound-recovers m hold s a b =
-      let e = recover-done g (handed xs m hold s) c (h .front) (h .sane) (lent m hold s a b) (h .logged .good) in
-      rw e (ap₂ (λ (m′ : List ℕ) (s′ : State). record { answer = 0; world = handed xs m′ hold s′ }) (front-redone g xs c (h .front) (h .sane) ∙ h .logged .made) (front-state g xs c (h .front)))
+      let e = recover-done g (handed xs m hold s) c (h .front) (h .sane) (lent m hold s a b) (logged-passes _ _ _ _ _ _ _ (h .logged)) in
+      rw e (ap₂ (λ (m′ : List ℕ) (s′ : State). record { answer = 0; world = handed xs m′ hold s′ }) (front-redone g xs c (h .front) (h .sane) ∙ h .logged .made)
+      (front-state g xs c (h .front)))

@@ -9,7 +9,6 @@ use native.Mathlib.Nat.{mul-le-mul-right}
 use mathlib.Core.List.{List, [], _∷_, _++_}
 use lib.ListN.{length, getD}
 use lib.Dec.{eqb}
-use Rattle.model.specs.Lists.{those, keep}
 use Rattle.model.specs.Page.{pageAt, wholeAt}
 use Rattle.model.specs.Geometry.{unmapped, dataBlock}
 use Rattle.model.specs.Zones.{Entry, entryOf, entryAt, wholeFrom, scanIn, scanOf, availableOf, unavailableOf, freeOf, zonesOk}
@@ -27,6 +26,9 @@ use Rattle.arrays.specs.Scan.{SameBlocks, each-map, each-append, entry-whole, e
 use Rattle.front.specs.Blocks.{SameData}
 use Rattle.front.specs.Written.{Saved}
 use Rattle.front.specs.Front.{Front}
+use Rattle.ranks.specs.Dealt as dealt
+use Rattle.ranks.specs.Entries.{Entries, entries-parts}
+use Rattle.ranks.specs.InTurn.{entries-turn}
 use Rattle.scanlog.specs.Occ.{occ}
 use Rattle.scanlog.specs.Shape.{Unlisted, listed-block}
 use Rattle.scanlog.specs.Order.{each-sub, is-each, away, order-stays}
@@ -47,42 +49,20 @@ pub record Spared (g : Geometry) (xs ys : List ℕ) (z : Zones) (map : List ℕ)
   pub free : SameBlocks xs ys (g .pages) (freeOf z)
   pub mapped : (k : ℕ) → k ≢ unmapped → 0 < occ k map → pageAt ys k ≡ pageAt xs k
 
--- every entry
-abbrev pub Entries : (Entry → Type 0) → List Entry → Type 0
-Entries P [] = Unit {0}
-Entries P (e ∷ es) = P e × Entries P es
-
 -- ---- entries
-entries-append : (P : Entry → Type 0) (es fs : List Entry) → Entries P es → Entries P fs → Entries P (es ++ fs)
-entries-append P [] fs h k = k
-entries-append P (e ∷ es) fs h k = (h .0, entries-append P es fs (h .1) k)
-
-entries-those : (P : Entry → Type 0) (p : Entry → Bool) (es : List Entry) → Entries P es → Entries P (those p es)
-unfolding those
-entries-those P p [] h = tt
-entries-those P p (e ∷ es) h = go (p e) (entries-those P p es (h .1))
-  where
-    go : (t : Bool) → Entries P (those p es) → Entries P (keep t (e ∷ []) ++ those p es)
-    go true k = (h .0, k)
-    go false k = k
-
-entries-left : (P : Entry → Type 0) (es fs : List Entry) → Entries P (es ++ fs) → Entries P es
-entries-left P [] fs h = tt
-entries-left P (e ∷ es) fs h = (h .0, entries-left P es fs (h .1))
-
-entries-right : (P : Entry → Type 0) (es fs : List Entry) → Entries P (es ++ fs) → Entries P fs
-entries-right P [] fs h = h
-entries-right P (e ∷ es) fs h = entries-right P es fs (h .1)
-
 -- the pages of a change, by their number
-laid-entry : (P : Entry → Type 0) (id : ℕ) (lpns ppns : List ℕ) (drops : List Bool) (n : ℕ) → Entries P (laid id lpns ppns drops n) → (j : ℕ) → j < n
-    → P (openEntry id (getD ppns j 0) (getD lpns j 0) (getD drops j false))
+laid-entry : (P : Entry → Type 0) (g : Geometry) (id : ℕ) (lpns ppns : List ℕ) (drops : List Bool) (n : ℕ) → Entries P (laid g id lpns ppns drops n) → (j : ℕ)
+    → j < n → P (openEntry g id (getD ppns j 0) (getD lpns j 0) (getD drops j false) (suc j))
 unfolding laid
-laid-entry P id lpns ppns drops zero h j l = absurd (omega arith)
-laid-entry P id lpns ppns drops (suc n) h j l = go (eqb-cases j n) (laid-entry P id lpns ppns drops n (entries-left P (laid id lpns ppns drops n) _ h) j)
+laid-entry P g id lpns ppns drops zero h j l = absurd (omega arith)
+laid-entry P g id lpns ppns drops (suc n) h j l = go (eqb-cases j n) (laid-entry P g id lpns ppns drops n (parts .0) j)
   where
-    go : Is j n → (j < n → P (openEntry id (getD ppns j 0) (getD lpns j 0) (getD drops j false))) → P (openEntry id (getD ppns j 0) (getD lpns j 0) (getD drops j false))
-    go (inl q) ih = rw (q .0) (entries-right P (laid id lpns ppns drops n) _ h .0)
+    parts : Entries P (laid g id lpns ppns drops n) × Entries P (openEntry g id (getD ppns n 0) (getD lpns n 0) (getD drops n false) (suc n) ∷ [])
+    parts = entries-parts P (laid g id lpns ppns drops n) _ h
+
+    go : Is j n → (j < n → P (openEntry g id (getD ppns j 0) (getD lpns j 0) (getD drops j false) (suc j)))
+        → P (openEntry g id (getD ppns j 0) (getD lpns j 0) (getD drops j false) (suc j))
+    go (inl q) ih = rw (q .0) (parts .1 .0)
     go (inr q) ih = ih (omega (arith, q .0))
 
 -- ---- the scanned pages are as they were
@@ -101,20 +81,21 @@ unfolding wholeFrom
 run-kept xs ys f zero h = tt
 run-kept xs ys f (suc n) h =
     let z : f + 0 ≡ f = omega arith in
-    entries-append (Kept xs ys) (entryAt xs f) (wholeFrom xs (suc f) n) (entry-kept xs ys f (rw z at (h 0 (omega arith))))
+    dealt.each-append (Kept xs ys) (entryAt xs f) (wholeFrom xs (suc f) n) (entry-kept xs ys f (rw z at (h 0 (omega arith))))
     (run-kept xs ys (suc f) n (λ i l. let s : f + suc i ≡ suc f + i = omega arith in rw s at (h (suc i) (omega arith))))
 
 scan-kept : (xs ys : List ℕ) (p : ℕ) (bs : List ℕ) → SameBlocks xs ys p bs → Entries (Kept xs ys) (scanIn xs p bs)
 unfolding scanIn
 scan-kept xs ys p [] h = tt
-scan-kept xs ys p (b ∷ bs) h = entries-append (Kept xs ys) (wholeFrom xs (b * p) p) (scanIn xs p bs) (run-kept xs ys (b * p) p (h .0)) (scan-kept xs ys p bs (h .1))
+scan-kept xs ys p (b ∷ bs) h =
+    dealt.each-append (Kept xs ys) (wholeFrom xs (b * p) p) (scanIn xs p bs) (run-kept xs ys (b * p) p (h .0)) (scan-kept xs ys p bs (h .1))
 
 -- ---- what is spared
 module _ (g : Geometry) (xs ys : List ℕ) (z : Zones) (map : List ℕ) (s : Spared g xs ys z map) where
   pub spared-tidy : Tidy g xs z → Tidy g ys z
   spared-tidy t = record {
     ok = t .ok;
-    order = order-stays xs ys (g .pages) (availableOf z) (s .available) (t .order);
+    order = λ one. order-stays xs ys (g .pages) (availableOf z) (s .available) (t .order one);
     blank = blank-stays xs ys (g .pages) (freeOf z) (s .free) (t .blank);
   }
 
@@ -134,14 +115,18 @@ module _ (g : Geometry) (xs ys : List ℕ) (z : Zones) (map : List ℕ) (s : Spa
   }
 
   -- the pages of an open change
-  spared-page : (p : Place) → Open p (scanOf xs (g .pages) z) → (j : ℕ) → suc j < p .count → pageAt ys (getD (p .ppns) j 0) ≡ pageAt xs (getD (p .ppns) j 0)
+  spared-page : (p : Place) → Open g p (scanOf xs (g .pages) z) → (j : ℕ) → suc j < p .count → pageAt ys (getD (p .ppns) j 0) ≡ pageAt xs (getD (p .ppns) j 0)
   unfolding scanOf ofId
   spared-page p o j l =
       let k : Entries (Kept xs ys) (scanIn xs (g .pages) (unavailableOf z ++ availableOf z))
-      = scan-kept xs ys (g .pages) (unavailableOf z ++ availableOf z) (each-append (λ (c : ℕ). SamePages xs ys (c * g .pages) (g .pages)) (unavailableOf z) (availableOf z) (s .unavailable) (s .available)) in
-      laid-entry (Kept xs ys) (p .id) (p .lpns) (p .ppns) (p .drops) (p .count - 1) (subst (Entries (Kept xs ys)) o (entries-those (Kept xs ys) (λ (e : Entry). eqb (e .id) (p .id)) _ k)) j (omega arith)
+      = scan-kept xs ys (g .pages) (unavailableOf z ++ availableOf z)
+      (each-append (λ (c : ℕ). SamePages xs ys (c * g .pages) (g .pages)) (unavailableOf z) (availableOf z) (s .unavailable) (s .available)) in
+      laid-entry (Kept xs ys) g (p .id) (p .lpns) (p .ppns) (p .drops) (p .count - 1)
+      (subst (Entries (Kept xs ys)) (o .turns)
+      (entries-turn (Kept xs ys) (g .planes) _ (dealt.each-those (Kept xs ys) (λ (e : Entry). eqb (e .id) (p .id)) _ k))) j (omega arith)
 
-  spared-writes : (hold : List ℕ) (i : ℕ) (p : Place) (ws : List Write) → Open p (scanOf xs (g .pages) z) → Writes xs map hold i p ws → Writes ys map hold i p ws
+  spared-writes : (hold : List ℕ) (i : ℕ) (p : Place) (ws : List Write) → Open g p (scanOf xs (g .pages) z) → Writes xs map hold i p ws
+      → Writes ys map hold i p ws
   spared-writes hold i p ws o w = record {
     count = w .count;
     small = w .small;
@@ -159,7 +144,8 @@ module _ (g : Geometry) (xs ys : List ℕ) (z : Zones) (map : List ℕ) (s : Spa
     bytes = w .bytes;
   }
 
-  pub spared-changing : (hold : List ℕ) (ps : List Place) (b : Book) → Opens ps (scanOf xs (g .pages) z) → Changing xs map hold ps b → Changing ys map hold ps b
+  pub spared-changing : (hold : List ℕ) (ps : List Place) (b : Book) → Opens g ps (scanOf xs (g .pages) z) → Changing xs map hold ps b
+      → Changing ys map hold ps b
   spared-changing hold ps b o c = record {
     eight = c .eight;
     writes = λ i l n. spared-writes hold i (placeAt ps i) _ (o i (omega (arith, c .eight)) n) (c .writes i l n);
@@ -168,8 +154,8 @@ module _ (g : Geometry) (xs ys : List ℕ) (z : Zones) (map : List ℕ) (s : Spa
   }
 
 -- the array is sound as it was, if the front is
-pub spared-sound : (g : Geometry) (xs ys : List ℕ) (z : Zones) (map : List ℕ) → Spared g xs ys z map → (c : Saved) (version : ℕ) (ps : List Content) → Grown (c .zones) z
-    → length ys ≡ length xs → Bytes ys → Leans ys → Front g ys c → Sound g xs c map version ps → Sound g ys c map version ps
+pub spared-sound : (g : Geometry) (xs ys : List ℕ) (z : Zones) (map : List ℕ) → Spared g xs ys z map → (c : Saved) (version : ℕ) (ps : List Content)
+    → Grown (c .zones) z → length ys ≡ length xs → Bytes ys → Leans ys → Front g ys c → Sound g xs c map version ps → Sound g ys c map version ps
 spared-sound g xs ys z map s c version ps grown e y l f h =
     let s₀ = spared-saved g xs ys z map s (c .zones) grown in
     record {
@@ -189,7 +175,8 @@ spared-sound g xs ys z map s c version ps grown e y l f h =
     }
 
 -- ---- a front block changes
-pub front-spares : (g : Geometry) (xs ys : List ℕ) (z : Zones) (map : List ℕ) → zonesOk g z ≡ true → MapGood g map → SameData xs ys (g .pages) → Spared g xs ys z map
+pub front-spares : (g : Geometry) (xs ys : List ℕ) (z : Zones) (map : List ℕ) → zonesOk g z ≡ true → MapGood g map → SameData xs ys (g .pages)
+    → Spared g xs ys z map
 front-spares g xs ys z map ok good same = record {
   available = is-each _ (availableOf z) (λ c k. block c (listed-block g z ok c (omega arith)));
   unavailable = is-each _ (unavailableOf z) (λ c k. block c (listed-block g z ok c (omega arith)));
@@ -203,11 +190,13 @@ front-spares g xs ys z map ok good same = record {
         same (c * g .pages + i) (omega arith)
 
 -- ---- a block of no list changes, on which nothing is mapped
-pub block-spares : (g : Geometry) (xs ys : List ℕ) (z : Zones) (map : List ℕ) (b : ℕ) → Unlisted z b → ((j : ℕ) → Outside (g .pages) b j → pageAt ys j ≡ pageAt xs j)
+pub block-spares : (g : Geometry) (xs ys : List ℕ) (z : Zones) (map : List ℕ) (b : ℕ) → Unlisted z b
+    → ((j : ℕ) → Outside (g .pages) b j → pageAt ys j ≡ pageAt xs j)
     → OtherBlock (g .pages) b xs ys → ((k : ℕ) → k ≢ unmapped → 0 < occ k map → Outside (g .pages) b k) → Spared g xs ys z map
 block-spares g xs ys z map b none o others outside = record {
   available = each-map (λ (c : ℕ). c ≢ b) (λ (c : ℕ). SamePages xs ys (c * g .pages) (g .pages)) others (availableOf z) (away b (availableOf z) (omega arith));
-  unavailable = each-map (λ (c : ℕ). c ≢ b) (λ (c : ℕ). SamePages xs ys (c * g .pages) (g .pages)) others (unavailableOf z) (away b (unavailableOf z) (omega arith));
+  unavailable = each-map (λ (c : ℕ). c ≢ b) (λ (c : ℕ). SamePages xs ys (c * g .pages) (g .pages)) others (unavailableOf z)
+      (away b (unavailableOf z) (omega arith));
   free = each-map (λ (c : ℕ). c ≢ b) (λ (c : ℕ). SamePages xs ys (c * g .pages) (g .pages)) others (freeOf z) (away b (freeOf z) (omega arith));
   mapped = λ k n m. o k (outside k n m);
 }

@@ -60,7 +60,7 @@ module _ (g : Geometry) (xs hold : List ℕ) (ok : geometryOk g ≡ true) (r : I
     front = f .front;
     sane = format-sane g (format-zones-ok g r);
     tidy = tidy-format g big xs erased;
-    logged = rw (scan-format g big xs erased) (logged-start (g .logical) 0 (blankMap g));
+    logged = rw (scan-format g big xs erased) (logged-start (g .planes) (g .logical) 0 (blankMap g));
     good = blank-good g;
     wide = unfold blankMap in length-replicate (g .logical) 65535;
     contents = contents-blank xs g;
@@ -78,7 +78,7 @@ module _ (g : Geometry) (xs hold : List ℕ) (ok : geometryOk g ≡ true) (r : I
     tidy = tidy-format g big xs erased;
     hold = long;
     places = free-places-good g;
-    opens = free-opens _;
+    opens = free-opens g _;
     changing = free-changing xs (blankMap g) hold (blank g) refl;
   }
 
@@ -92,7 +92,8 @@ formatted-live g w h = go (formatted g (format-zones-ok g) w h)
     go : Starts g w → (w .state .geometry ≡ g) × Live w (blank g)
     go s =
         let k : Kept (handed (w .array) (blankMap g) (w .hold) (stateDone g)) (formatSaved g) = rw (s .state, s .map) at (starts-kept g w s) in
-        let l = start-live g (w .array) (w .hold) (unfold lentOk in and-left (geometryOk g) (lengthsOk g (w .array) (w .map) (w .hold)) (s .lent)) (lent-geometry g w (s .lent)) (lent-lengths g w (s .lent) .hold) (s .fresh) k in
+        let l = start-live g (w .array) (w .hold) (unfold lentOk in and-left (geometryOk g) (lengthsOk g (w .array) (w .map) (w .hold)) (s .lent))
+        (lent-geometry g w (s .lent)) (lent-lengths g w (s .lent) .hold) (s .fresh) k in
         (shape (w .state) (s .state), rw (s .state, s .map) l)
 
 -- no work is under way
@@ -101,8 +102,16 @@ formatted-idle g w h = ap (λ (s : State). s .work) (formatted g (format-zones-o
 
 -- there is such a world, for every geometry in range: a format of idle buffers in range comes to its end
 pub some-formatted : (g : Geometry) → geometryOk g ≡ true → (w : World) × Formatted g w
-some-formatted g ok = format-finishes g (format-zones-ok g) (handed (replicate (g .blocks * g .pages * 528) 0) (blankMap g) (replicate 4096 0) (freshState g)) lent (unfold freshState in refl)
+some-formatted g ok =
+    format-finishes g (format-zones-ok g) (handed (replicate (g .blocks * g .pages * 528) 0) (blankMap g) (replicate 4096 0) (freshState g)) lent
+    (unfold freshState in refl)
   where
     lent : lentOk g (handed (replicate (g .blocks * g .pages * 528) 0) (blankMap g) (replicate 4096 0) (freshState g)) ≡ true
-    lent = unfold lentOk blankMap in and-both (geometryOk g) _ ok (in-lengths g (replicate (g .blocks * g .pages * 528) 0) (replicate (g .logical) unmapped) (replicate 4096 0)
-        (record { array = length-replicate {A = ℕ} (g .blocks * g .pages * 528) 0; map = length-replicate {A = ℕ} (g .logical) unmapped; hold = length-replicate {A = ℕ} 4096 0 }))
+    lent =
+        unfold lentOk blankMap in and-both (geometryOk g) _ ok
+        (in-lengths g (replicate (g .blocks * g .pages * 528) 0) (replicate (g .logical) unmapped) (replicate 4096 0)
+        (record {
+          array = length-replicate {A = ℕ} (g .blocks * g .pages * 528) 0;
+          map = length-replicate {A = ℕ} (g .logical) unmapped;
+          hold = length-replicate {A = ℕ} 4096 0;
+        }))

@@ -2,6 +2,7 @@
 -- further stride is refused; each stride of a reclaim picks the same block.
 use mathlib.Core.Path.{_≡_, refl, sym, ap, _∙_, subst}
 use mathlib.Core.Bool.{Bool, true, false, false≢true, not, cond}
+use mathlib.Core.List.{List}
 use Prim.Native.Nat.{ℕ, _*_}
 use native.Mathlib.Omega.{arith}
 use lib.Dec.{eqb, ltb}
@@ -12,12 +13,16 @@ use Rattle.model.specs.World.{World, Plan, refuse, applyOp}
 use Rattle.model.specs.Frame.{lentOk, frameOk, isIdle, gate}
 use Rattle.model.specs.Recovery.{pagesGood}
 use Rattle.model.specs.Recover.{entriesAt, zonesAt, scannedAt, planRecover, recoverFrom, recoverPlan, recoveredState}
-use Rattle.model.specs.Transactions.{unless, withPlace, withVersion, planBegin, planWrite, planDrop, planLone, planCommit, planAbort, writePlan, lonePlan, markPlan, forgetPlan}
-use Rattle.model.specs.Strides.{isCheckpoint, isReclaim, withWork, withZones, withNumber, mappedIn, picked, lowestFrom, mapStride, zoneStride, pageStride, otherStride, copyStride, freeStride, reclaimStride, planCheckpoint, planReclaim}
+use Rattle.model.specs.Transactions.{gone, unless, withPlace, withVersion, planBegin, planWrite, planDrop, planLone, planCommit}
+use Rattle.model.specs.Transactions.{planAbort, writePlan, lonePlan, markPlan, forgetPlan, withLast}
+use Rattle.model.specs.Strides.{isCheckpoint, isReclaim, withWork, withZones, withNumber, mappedIn, picked, lowestFrom, mapStride, zoneStride, pageStride}
+use Rattle.model.specs.Strides.{otherStride, copyStride, freeStride, reclaimStride, planCheckpoint, planReclaim}
 use Rattle.model.specs.Commands.{Call, format, recover, begin, write, dropPage, lone, commit, abort, read, checkpoint, reclaim, plan, carried, exec}
 use Rattle.model.specs.Book.{Book}
 use Rattle.model.specs.Sequence.{Allowed}
 use Rattle.model.specs.declared.Geometry.{Geometry}
+use Rattle.model.specs.declared.Place.{Place}
+use Rattle.model.specs.declared.State.{State}
 use Rattle.model.specs.declared.Work.{Work}
 use Rattle.model.specs.declared.Work.the-variants.{Idle, Format, Checkpoint, Reclaim}
 use Rattle.arrays.specs.Tests.{clash}
@@ -25,6 +30,7 @@ use Rattle.arrays.specs.Frame.{gate-own}
 use Rattle.front.specs.CheckpointStrides.{Stride, refuses, erases, maps, zones, checkpoint-stride, checkpoint-goes-on}
 use Rattle.scanlog.specs.Reclaim.{GoingOn, stride-goes}
 use Rattle.sequence.specs.Refused.{refused-same, read-same}
+use Rattle.sequence.specs.SameShape.{held-same}
 use Rattle.sequence.specs.Live.{Live, live-frame}
 use Rattle.sequence.specs.View.{View, no, yes, view-test, view-cond, view-map}
 use Rattle.sequence.specs.Begin.{begin-view}
@@ -112,7 +118,8 @@ pub reclaim-not-refused : (w : World) (b : Book) → Live w b → GoesOn w → i
 unfolding exec carried plan planReclaim
 reclaim-not-refused w b h on i = rw (i, gate-own w (live-frame w b h)) (goes (on i .0) (on i .1))
   where
-    either : (c : ℕ) (t : Bool) → refused (cond t (freeStride c w) (copyStride (lowestFrom (w .map) (c * w .state .geometry .pages) (w .state .geometry .pages)) w) .answer) ≡ false
+    either : (c : ℕ) (t : Bool) → refused (cond t (freeStride c w)
+        (copyStride (lowestFrom (w .map) (c * w .state .geometry .pages) (w .state .geometry .pages)) w) .answer) ≡ false
     either c true = unfold freeStride refused in refl
     either c false = unfold copyStride refused in refl
 
@@ -137,14 +144,19 @@ stride-rests w p (zones q a r) = yes (zoneStride q (mapPages (w .state .geometry
 
 commit-rests : (w : World) (id : ℕ) (p : Plan) → Commits w id p → Rests p
 commit-rests w id p (forgets i f z) = unfold forgetPlan withPlace in idle-rests (w .state .work) i
-commit-rests w id p (marks i f n m r) = unfold markPlan withPlace withVersion in idle-rests (w .state .work) i
+commit-rests w id p (marks i f n m r) = unfold markPlan withPlace withVersion withLast in idle-rests (w .state .work) i
+
+write-rests : (w : World) (i : ℕ) (p : Place) (lpn : ℕ) (drop : Bool) (d : List ℕ) → isIdle (w .state .work) ≡ true → Rests (writePlan i p lpn drop d w)
+unfolding writePlan withPlace withLast
+write-rests w i p lpn drop d h = rw (held-same w (λ (s : State). s .work) p refl) (idle-rests (w .state .work) h)
 
 from-rests : (g : Geometry) (w : World) (f : Found) → View w Rests (recoverFrom g w f)
 unfolding recoverFrom refused
 from-rests g w nothing = no 2 refl
 from-rests g w (at k) =
     view-test w Rests (not (loadOk g (entriesAt g (w .array) k) (zonesAt g (w .array) k))) 3 _ refl (λ a.
-    view-test w Rests (not (pagesGood (g .logical) (scannedAt g (w .array) k))) 4 _ refl (λ c. yes (recoverPlan g k w) (unfold recoverPlan recoveredState in refl)))
+    view-test w Rests (not (pagesGood (g .planes) (g .logical) (scannedAt g (w .array) k))) 4 _ refl
+    (λ c. yes (recoverPlan g k w) (unfold recoverPlan recoveredState in refl)))
 
 recover-rests : (g : Geometry) (w : World) → View w Rests (planRecover g w)
 unfolding planRecover
@@ -185,12 +197,19 @@ pub goes-call : (g : Geometry) (c : Call) (w : World) (b : Book) → Allowed g c
 unfolding plan
 goes-call g (format k) w b a h on = rw (refused-same w (format k) (unfold exec carried in a)) on
 goes-call g (recover k) w b a h on = goes-after (recover k) w on (recover-rests k w)
-goes-call g (begin id) w b a h on = goes-after (begin id) w on (view-map w _ Rests _ (λ p v. rw (v .is) (unfold withPlace in idle-rests (w .state .work) (v .idle))) (begin-view id w))
-goes-call g (write id lpn d) w b a h on = goes-after (write id lpn d) w on (view-map w _ Rests _ (λ p v. rw (v .is) (unfold writePlan withPlace in idle-rests (w .state .work) (v .idle))) (write-view id lpn d w))
-goes-call g (dropPage id lpn) w b a h on = goes-after (dropPage id lpn) w on (view-map w _ Rests _ (λ p v. rw (v .is) (unfold writePlan withPlace in idle-rests (w .state .work) (v .idle))) (drop-view id lpn w))
-goes-call g (lone lpn d) w b a h on = goes-after (lone lpn d) w on (view-map w _ Rests _ (λ p v. rw (v .is) (unfold lonePlan withVersion in idle-rests (w .state .work) (v .idle))) (lone-view lpn d w))
+goes-call g (begin id) w b a h on =
+    goes-after (begin id) w on (view-map w _ Rests _ (λ p v. rw (v .is) (unfold withPlace in idle-rests (w .state .work) (v .idle))) (begin-view id w))
+goes-call g (write id lpn d) w b a h on =
+    goes-after (write id lpn d) w on (view-map w _ Rests _ (λ p v. rw (v .is) (write-rests w _ _ lpn false d (v .idle))) (write-view id lpn d w))
+goes-call g (dropPage id lpn) w b a h on =
+    goes-after (dropPage id lpn) w on (view-map w _ Rests _ (λ p v. rw (v .is) (write-rests w _ _ lpn true gone (v .idle))) (drop-view id lpn w))
+goes-call g (lone lpn d) w b a h on =
+    goes-after (lone lpn d) w on (view-map w _ Rests _ (λ p v. rw (v .is) (unfold lonePlan withVersion withLast in idle-rests (w .state .work) (v .idle)))
+    (lone-view lpn d w))
 goes-call g (commit id) w b a h on = goes-after (commit id) w on (view-map w _ Rests _ (commit-rests w id) (commit-view id w))
-goes-call g (abort id) w b a h on = goes-after (abort id) w on (view-map w _ Rests _ (λ p v. rw (v .is) (unfold forgetPlan withPlace in idle-rests (w .state .work) (v .idle))) (abort-view id w))
+goes-call g (abort id) w b a h on =
+    goes-after (abort id) w on (view-map w _ Rests _ (λ p v. rw (v .is) (unfold forgetPlan withPlace in idle-rests (w .state .work) (v .idle)))
+    (abort-view id w))
 goes-call g (read lpn) w b a h on = rw (read-same lpn w) on
 goes-call g checkpoint w b a h on = goes-after checkpoint w on (stride-rests w _ (checkpoint-stride w (h .saved) (h .kept)))
 goes-call g reclaim w b a h on = reclaim-goes w b h on
@@ -219,7 +238,7 @@ unfolding exec carried plan
 reclaim-more w b h a = go (planReclaim w) refl (reclaim-view w (h .sound .last))
   where
     does : (p : Plan) → p .answer ≡ 255 → Reclaims w p → More isReclaim w (carried p w .world)
-    does p a (copies c calm on some) = unfold carried copyStride withWork withVersion in record { work = refl; zones = refl }
+    does p a (copies c calm on some) = unfold carried copyStride withWork withVersion withLast in record { work = refl; zones = refl }
     does p a (frees c calm on zero) = let z : _≡_ {A = ℕ} 0 255 = unfold freeStride in a in absurd (omega arith)
 
     go : (p : Plan) → planReclaim w ≡ p → View w (Reclaims w) p → More isReclaim w (exec reclaim w .world)

@@ -33,6 +33,17 @@ module _ (q : ℕ → Bool) where
       go true k = all-cons p x (those q xs) (all-head p x xs h) k
       go false k = k
 
+  -- those of the first i blocks, and of one more
+  module _ (bs : List ℕ) (i : ℕ) (h : i < length bs) where
+    one-more : those q (take (i + 1) bs) ≡ those q (take i bs) ++ those q (getD bs i 0 ∷ [])
+    one-more = ap (those q) (rw (add-one, take-suc bs i 0 h)) ∙ those-append q (take i bs) (getD bs i 0 ∷ [])
+
+    pub more-no : q (getD bs i 0) ≡ false → those q (take (i + 1) bs) ≡ those q (take i bs)
+    more-no n = one-more ∙ rw (those-no q (getD bs i 0) [] n, those-nil q) (append-nil (those q (take i bs)))
+
+    pub more-yes : q (getD bs i 0) ≡ true → those q (take (i + 1) bs) ≡ those q (take i bs) ++ (getD bs i 0 ∷ [])
+    more-yes y = one-more ∙ rw (those-yes q (getD bs i 0) [] y, those-nil q)
+
 -- out is `start` with those of the first i blocks of bs
 module _ (q : ℕ → Bool) (start bs : List ℕ) (i : ℕ) (out : Blocks) (e : out ≡ blocksOf (start ++ those q (take i bs))) where
   pub picks-few : i ≤ length bs → out .n ≤ length start + i
@@ -43,16 +54,11 @@ module _ (q : ℕ → Bool) (start bs : List ℕ) (i : ℕ) (out : Blocks) (e : 
       let n = length-take-le i bs h in
       omega arith
 
-  more : i < length bs → those q (take (i + 1) bs) ≡ those q (take i bs) ++ those q (getD bs i 0 ∷ [])
-  more h = ap (those q) (rw (add-one, take-suc bs i 0 h)) ∙ those-append q (take i bs) (getD bs i 0 ∷ [])
-
   pub picks-pass : i < length bs → q (getD bs i 0) ≡ false → out ≡ blocksOf (start ++ those q (take (i + 1) bs))
-  picks-pass h n = e ∙ ap (λ (l : List ℕ). blocksOf (start ++ l)) (sym (more h ∙ rw (those-no q (getD bs i 0) [] n, those-nil q) (append-nil (those q (take i bs)))))
+  picks-pass h n = e ∙ ap (λ (l : List ℕ). blocksOf (start ++ l)) (sym (more-no q bs i h n))
 
   pub picks-more : (r : Blocks) → r ≡ blocksOf (listOf out ++ (getD bs i 0 ∷ [])) → i < length bs → q (getD bs i 0) ≡ true → r ≡ blocksOf (start ++ those q (take (i + 1) bs))
-  picks-more r f h y =
-      let m : those q (take (i + 1) bs) ≡ those q (take i bs) ++ (getD bs i 0 ∷ []) = more h ∙ rw (those-yes q (getD bs i 0) [] y, those-nil q) in
-      f ∙ rw (kept-list out (start ++ those q (take i bs)) e, m, append-assoc)
+  picks-more r f h y = f ∙ rw (kept-list out (start ++ those q (take i bs)) e, more-yes q bs i h y, append-assoc)
 
   pub picks-end : length bs ≤ i → out ≡ blocksOf (start ++ those q bs)
   picks-end h = e ∙ rw (take-all i bs h)

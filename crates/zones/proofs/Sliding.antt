@@ -9,7 +9,6 @@ use lib.ListN.{length, replicate, length-take, length-append}
 use Rattle.model.specs.Lists.{padTo, those}
 use Rattle.model.specs.Geometry.{dataBlock}
 use Rattle.model.specs.Zones.{availableOf, unavailableOf, freeOf, isFull, scanIn, staying, leaving, judged}
-use Rattle.model.specs.Zones as zones
 use Rattle.model.specs.declared.Geometry.{Geometry}
 use Rattle.model.specs.declared.Place.{Place}
 use Rattle.model.specs.declared.Zones.{Zones}
@@ -69,7 +68,8 @@ module _ (g : Geometry) (xs : List ℕ) (z : Zones) (ready : Ready g xs z) where
       let a = ready-listed g xs z ready .few in
       omega (arith, length-take (z .na) (z .available))
 
-  picked-within : (q : ℕ → Bool) → Within (length xs) (g .pages) (those q (availableOf z))
+  -- those of the available blocks that pass a test
+  pub picked-within : (q : ℕ → Bool) → Within (length xs) (g .pages) (those q (availableOf z))
   picked-within q =
       let a = few-available in
       let t = length-those q (availableOf z) in

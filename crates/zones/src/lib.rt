@@ -3,7 +3,7 @@
 // A slide first lists the identifiers on whole pages of the near blocks, those still available: 3 of at most 64 pages, so at most 192. From
 // then on it compares numbers from spare areas, and a page of another block is classed, once, where its identifier is wanted.
 ghost use mathlib.Core.Path.{_≡_};
-ghost use mathlib.Core.Bool.{true, not};
+ghost use mathlib.Core.Bool.{true};
 ghost use Prim.Native.Nat.{ℕ, _+_, _*_, _≤_, _<_};
 ghost use mathlib.Core.List.{_++_};
 ghost use lib.ListN.{length, take};

@@ -3,8 +3,8 @@ use crate::array::{checkpointed, put, scan_order, spare, whole_page};
 use crate::setup::Random;
 use bokuhira::{Geometry, Zones, UNMAPPED};
 
-/// What a page says of its change: TxCnt, TxID and TxVer.
-type Page = (u16, u32, u32);
+/// What a page says of its change: TxCnt, TxID, TxVer, and on two planes its write number.
+type Page = (u16, u32, u32, u8);
 
 /// Makes the pages of an array, so many, in scan order.
 type Kind = fn(usize, &mut Random) -> Vec<Page>;
@@ -28,21 +28,21 @@ pub fn full(g: Geometry, kind: Kind) -> Vec<u8> {
     let mut array = checkpointed(g, &vec![UNMAPPED; g.logical as usize], 0, &zones);
     let order = scan_order(g, &zones);
     let mut random = Random::new(7);
-    for ((count, id, version), k) in kind(order.len(), &mut random).into_iter().zip(order) {
+    for ((count, id, version, number), k) in kind(order.len(), &mut random).into_iter().zip(order) {
         let lpn = random.below(g.logical as u64) as u16;
-        put(&mut array, k, &whole_page(&random.page(), &spare(lpn, count, id, version, 0, 0)));
+        put(&mut array, k, &whole_page(&random.page(), &spare(lpn, count, id, version, 0, if g.planes == 2 { number } else { 0 })));
     }
     array
 }
 
 /// Lone pages, and now and then a page of one of eight open changes.
 fn mixed(n: usize) -> Vec<Page> {
-    (0..n as u32).map(|s| if s % 32 == 0 { (0, 1 + s / 32 % 8, 0) } else { (1, 0, s + 1) }).collect()
+    (0..n as u32).map(|s| if s % 32 == 0 { (0, 1 + s / 32 % 8, 0, 1 + (s / 256) as u8) } else { (1, 0, s + 1, 0) }).collect()
 }
 
 /// Changes of one page; identifier 0 makes it a lone one.
 fn short(ids: Vec<u32>, versions: Vec<u32>) -> Vec<Page> {
-    ids.into_iter().zip(versions).map(|(id, version)| (1, id, version)).collect()
+    ids.into_iter().zip(versions).map(|(id, version)| (1, id, version, (id != 0) as u8)).collect()
 }
 
 /// Changes of 1 to 8 pages, seven of them open at a time; each identifier is made from the one before.
@@ -58,11 +58,12 @@ fn changes(n: usize, random: &mut Random, next: fn(u32, &mut Random) -> u32) -> 
             *change = (id, pages, pages);
         }
         change.2 -= 1;
+        let number = (change.1 - change.2) as u8;
         if change.2 > 0 {
-            return (0, change.0, 0);
+            return (0, change.0, 0, number);
         }
         version += 1;
-        (change.1, change.0, version)
+        (change.1, change.0, version, number)
     };
     (0..n).map(&mut page).collect()
 }

@@ -196,7 +196,7 @@ fn least(ways: &mut [Way]) -> Vec<f64> {
 fn line(table: &mut Table, what: &str, mut ways: Vec<Way>) {
     let best = least(&mut ways);
     let plain = best[1..].iter().copied().fold(f64::MAX, f64::min);
-    table.line(what, best[0], plain);
+    table.line(what, [best[0], plain], None);
 }
 
 const CLASSES: [fn(&[u8]) -> u8; 5] = [class_proved, class_bytes, class_words, class_once, class_common];

@@ -1,4 +1,5 @@
-//! A long random session, each call timed: changes of writes and drops, lone writes and reads, with a reclaim and a checkpoint whenever the zone is short.
+//! A long random session, each call timed: changes of writes and drops, lone writes and reads. Whenever the zone is short a checkpoint makes room,
+//! and where few blocks are free a reclaim before it.
 use crate::layer::{kind, Layer};
 use crate::setup::Random;
 use bokuhira::{Answer, Call, Geometry, State, Store};
@@ -24,7 +25,14 @@ struct Session {
     tally: Tally,
     /// what a pair of clock readings takes
     clock: f64,
+    /// a block is reclaimed where fewer than these are free
+    few: usize,
 }
+
+/// As many blocks as a checkpoint takes at most.
+pub const FEW: usize = 3;
+/// A reclaim with every checkpoint.
+pub const ALWAYS: usize = usize::MAX;
 
 impl Session {
     fn call(&mut self, call: &Call) -> u8 {
@@ -47,14 +55,21 @@ impl Session {
         self.tally.erases += erases;
     }
 
-    /// Makes room: one reclaim, where it gains anything, and one checkpoint.
-    fn make_room(&mut self) {
+    /// Frees a block, where that gains anything.
+    fn reclaim(&mut self) {
         loop {
             match self.call(&Call::Reclaim) {
                 255 => self.count(1, 0),
-                0 => break self.count(0, 1),
-                _ => break,
+                0 => return self.count(0, 1),
+                _ => return,
             }
+        }
+    }
+
+    /// Makes room: one reclaim where few blocks are free, and one checkpoint.
+    fn make_room(&mut self) {
+        if State::decode(&self.store.state).unwrap().zones.free.len() < self.few {
+            self.reclaim();
         }
         let mut first = true;
         loop {
@@ -83,8 +98,8 @@ impl Session {
 }
 
 /// Runs a session of so many turns from a formatted store, and gives what it took and the store it left.
-pub fn run(layer: Layer, g: Geometry, turns: u32, seed: u64, clock: f64) -> (Tally, Store) {
-    let mut s = Session { layer, store: Store::formatted(g).expect("a geometry in range"), tally: Tally::default(), clock };
+pub fn run(layer: Layer, g: Geometry, turns: u32, seed: u64, clock: f64, few: usize) -> (Tally, Store) {
+    let mut s = Session { layer, store: Store::formatted(g).expect("a geometry in range"), tally: Tally::default(), clock, few };
     let mut random = Random::new(seed);
     let datas: Vec<Vec<u8>> = (0..16).map(|_| random.page()).collect();
     let mut id = 0;
@@ -132,33 +147,68 @@ pub fn run(layer: Layer, g: Geometry, turns: u32, seed: u64, clock: f64) -> (Tal
     (s.tally, s.store)
 }
 
-/// A store in which so many blocks are listed: eight changes stay open, and one of their pages is put among the lone writes ever so often, so
-/// that every block that fills up stays unavailable.
-pub fn listed(g: Geometry, blocks: usize) -> Store {
+/// How many of eight changes stay open for good: all, and the other pages are lone ones; or four, and the other pages are of changes of 1 to 8 pages.
+pub const LONE: u32 = 8;
+pub const CHANGES: u32 = 4;
+
+/// A store in which so many blocks are listed. One or two pages of the changes that stay open stand in each block, so that every block that fills up
+/// stays unavailable.
+pub fn listed(g: Geometry, blocks: usize, stay: u32) -> Store {
     let mut s = Store::formatted(g).expect("a geometry in range");
     let mut random = Random::new(g.blocks as u64);
-    // two in each block: few enough that no change gets too long
-    let every = g.pages as u64 / 2;
-    // a change's first page is held, not programmed
+    let page = |r: &mut Random| (r.below(g.logical as u64) as u16, r.page());
+    let write = |id, r: &mut Random| {
+        let (lpn, data) = page(r);
+        Call::Write { id, lpn, data }
+    };
+    // a change's first page is held: from then on each turn programs one
     for id in 1..=8 {
         assert_eq!(s.begin(id), Answer::Done);
-        assert_eq!(s.write(id, 0, &random.page()), Answer::Done);
+        assert_eq!(s.call(&write(id, &mut random)), Answer::Done);
     }
+    // identifier, and how many pages are to come
+    let mut changes: Vec<(u32, u64)> = (stay + 1..=8).map(|id| (id, random.below(8))).collect();
+    let mut ids = 9..;
+    // on two planes a page in each of the two blocks that fill up together; few enough that no change gets too long
+    let planes = g.planes as u32;
+    let apart = 4 * planes * g.pages as u32 / stay;
     for turn in 0.. {
-        let data = random.page();
-        let lpn = random.below(g.logical as u64) as u16;
-        let answer = if turn % every == 0 { s.write(1 + (turn / every % 8) as u32, lpn, &data) } else { s.lone(lpn, &data) };
-        match answer.number() {
-            0 => (),
-            12 => {
-                let z = State::decode(&s.state).unwrap().zones;
-                if z.available.len() + z.unavailable.len() >= blocks || z.free.is_empty() {
-                    return s;
-                }
-                while s.checkpoint().more().expect("a checkpoint") {}
+        let calls = if turn % apart < planes {
+            vec![write(1 + (turn / apart * planes + turn % apart) % stay, &mut random)]
+        } else if changes.is_empty() {
+            let (lpn, data) = page(&mut random);
+            vec![Call::Lone { lpn, data }]
+        } else {
+            let change = &mut changes[random.below(8 - stay as u64) as usize];
+            if change.1 > 0 {
+                change.1 -= 1;
+                vec![write(change.0, &mut random)]
+            } else {
+                let done = change.0;
+                *change = (ids.next().unwrap(), random.below(8));
+                vec![Call::Commit(done), Call::Begin(change.0), write(change.0, &mut random)]
             }
-            other => panic!("{answer:?} {other} in turn {turn}"),
+        };
+        if !calls.iter().all(|call| fits(&mut s, call, blocks)) {
+            return s;
         }
     }
     unreachable!()
+}
+
+/// Carries a call out, after checkpoints where the zone is short; not once so many blocks are listed.
+fn fits(s: &mut Store, call: &Call, blocks: usize) -> bool {
+    loop {
+        match s.call(call).number() {
+            0 => return true,
+            12 => {
+                let z = State::decode(&s.state).unwrap().zones;
+                if z.available.len() + z.unavailable.len() >= blocks || z.free.is_empty() {
+                    return false;
+                }
+                while s.checkpoint().more().expect("a checkpoint") {}
+            }
+            other => panic!("{call:?} answered {other}"),
+        }
+    }
 }

@@ -2,14 +2,16 @@
 use bokuhira::Geometry;
 
 /// Small, middle and large.
-pub const GEOMETRIES: [Geometry; 3] = [
-    Geometry { blocks: 8, pages: 8, logical: 16 },
-    Geometry { blocks: 64, pages: 32, logical: 1024 },
-    Geometry { blocks: 128, pages: 64, logical: 1024 },
-];
+pub const GEOMETRIES: [Geometry; 3] = [Geometry::new(8, 8, 16), Geometry::new(64, 32, 1024), Geometry::new(128, 64, 1024)];
+
+/// A geometry with one plane and with two.
+pub fn on_planes(g: Geometry) -> [Geometry; 2] {
+    [1, 2].map(|planes| g.with_planes(planes))
+}
 
 pub fn name(g: Geometry) -> String {
-    format!("{} × {} × {}", g.blocks, g.pages, g.logical)
+    let planes = if g.planes == 2 { ", two planes" } else { "" };
+    format!("{} × {} × {}{planes}", g.blocks, g.pages, g.logical)
 }
 
 pub struct Random(u64);

@@ -1,4 +1,4 @@
-//! Tables of ratios. A table may have a goal, to which each of its lines is held; what is missed is said once, at the end.
+//! Tables of ratios. A table may have a goal, to which each ratio of its lines is held; what is missed is said once, at the end.
 
 /// Two runs of one program differ by as much: a ratio within this of its goal meets it.
 const NOISE: f64 = 0.05;
@@ -9,29 +9,35 @@ pub fn meets(ratio: f64, goal: f64) -> bool {
 
 #[derive(Default)]
 pub struct Table {
-    /// The table under way: what it is of, and its goal.
+    /// The table under way: what it is of, what else the proved times are set beside, and its goal.
     what: String,
+    of: Option<&'static str>,
     goal: Option<f64>,
     held: usize,
     missed: Vec<String>,
 }
 
 impl Table {
-    pub fn head(&mut self, what: &str, goal: Option<f64>) {
-        (self.what, self.goal) = (what.to_string(), goal);
-        let (title, rule) = if goal.is_some() { (" goal |", "---|") } else { ("", "") };
-        println!("\n| {what} | proved | plain Rust | times |{title}\n|---|---|---|---|{rule}");
+    pub fn head(&mut self, what: &str, of: Option<&'static str>, goal: Option<f64>) {
+        (self.what, self.of, self.goal) = (what.to_string(), of, goal);
+        let columns: Vec<&str> = [what, "proved", "plain Rust", "times"].into_iter().chain(of).chain(goal.map(|_| "goal")).collect();
+        println!("\n| {} |\n{}|", columns.join(" | "), "|---".repeat(columns.len()));
     }
 
-    /// One line, the times in nanoseconds; their ratio.
-    pub fn line(&mut self, what: &str, proved: f64, plain: f64) -> f64 {
-        let ratio = proved / plain;
-        let goal = self.goal.map_or(String::new(), |goal| format!(" {goal:.1} |"));
-        println!("| {what} | {} | {} | {ratio:.2} |{goal}", time(proved), time(plain));
-        if let Some(goal) = self.goal {
-            self.hold(meets(ratio, goal), &format!("{}: {what}: {ratio:.2} times, goal {goal:.1}", self.what));
+    /// One line, the times in nanoseconds: the proved one beside plain Rust's, and beside the other that the head named. The first ratio.
+    pub fn line(&mut self, what: &str, [proved, plain]: [f64; 2], other: Option<f64>) -> f64 {
+        let times = proved / plain;
+        let ratios = [("times", times)].into_iter().chain(self.of.zip(other.map(|other| proved / other)));
+        let mut cells = vec![what.to_string(), time(proved), time(plain)];
+        for (of, ratio) in ratios {
+            cells.push(format!("{ratio:.2}"));
+            if let Some(goal) = self.goal {
+                self.hold(meets(ratio, goal), &format!("{}: {what}: {ratio:.2} {of}, goal {goal:.1}", self.what));
+            }
         }
-        ratio
+        cells.extend(self.goal.map(|goal| format!("{goal:.1}")));
+        println!("| {} |", cells.join(" | "));
+        times
     }
 
     /// Notes whether a goal is met, and what to say where it is missed.

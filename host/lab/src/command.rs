@@ -1,5 +1,5 @@
 //! What a line can say, as data.
-use crate::cut::How;
+use crate::cut::Left;
 use bokuhira::{Call, Geometry, State};
 
 #[derive(Clone, PartialEq, Eq, Debug)]
@@ -29,7 +29,7 @@ pub enum Command {
     Call(Call),
     FormatToTheEnd(Geometry),
     UntilDone(Call),
-    Cut(Option<Call>, How),
+    Cut(Option<Call>, Left),
     Dark { map: u16, hold: u8 },
     Blank(Geometry),
     Keep,

@@ -47,6 +47,36 @@ impl How {
     }
 }
 
+/// What a cut leaves: of the call's operation the bits that `how` turns, or nothing where it falls before that begins; of pages that run the
+/// bits of each, all of them where a page is not named.
+#[derive(Clone, PartialEq, Eq, Debug)]
+pub struct Left {
+    pub early: bool,
+    pub how: How,
+    pub running: Vec<(usize, How)>,
+}
+
+impl From<How> for Left {
+    fn from(how: How) -> Left {
+        Left { early: false, how, running: Vec::new() }
+    }
+}
+
+/// A page that ran when the power failed: of how many due bits how many were turned.
+#[derive(Clone, PartialEq, Eq, Debug)]
+pub struct Ran {
+    pub page: usize,
+    pub due: usize,
+    pub turned: usize,
+}
+
+impl Ran {
+    /// As in "page 17 (block 2, page 1) ran: 208 of 4161 due bits turned".
+    pub fn words(&self, g: Geometry) -> String {
+        format!("{} ran: {} of {} turned", page_name(g, self.page), self.turned, plural(self.due, "due bit"))
+    }
+}
+
 /// A cut that fell, for those who look at it later.
 #[derive(Clone, PartialEq, Eq, Debug)]
 pub struct Cut {
@@ -57,6 +87,7 @@ pub struct Cut {
     pub turned: Vec<bool>,
     /// What is said of it where no bit was due.
     pub nothing: String,
+    pub ran: Vec<Ran>,
 }
 
 /// The parts of a page by name: first byte and the byte past the last.
@@ -80,8 +111,9 @@ impl Cut {
     /// All of it, by part of the page or by page; with every byte if its bits are asked for.
     pub fn words(&self, g: Geometry, bits: bool) -> String {
         let mut text = format!("{}\n", self.what);
+        let ran: String = self.ran.iter().map(|r| format!("  {}\n", r.words(g))).collect();
         match self.op {
-            Op::Nothing => return text + &format!("  {}\n", self.nothing),
+            Op::Nothing => return text + &format!("  {}\n", self.nothing) + &ran,
             Op::Program(k) => {
                 text += &format!("  in the program of {}: {}\n", page_name(g, k), self.turned_words());
                 for (name, from, to) in FIELDS {
@@ -96,6 +128,7 @@ impl Cut {
                 }
             }
         }
+        text += &ran;
         if bits {
             text += &self.bits();
         }

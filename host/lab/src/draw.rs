@@ -79,11 +79,13 @@ fn column(layout: &Layout, b: usize, css: &str, words: &str) -> String {
     let ((w, _), middle) = (layout.cell, layout.cell.0 / 2.0);
     let x = layout.left + b as f64 * layout.column;
     let (height, head) = (layout.head_height, layout.top - layout.head_height - 2.0);
-    let (name, size, small) = match layout.head {
-        Head::Block => (format!("block {b}"), 17, 16),
-        Head::Words => (b.to_string(), 26, 16),
-        Head::Letters => (b.to_string(), 19, 18),
-        Head::Narrow => (b.to_string(), 10, 12),
+    let (name, size, small) = match (layout.head, layout.plane(b)) {
+        (Head::Block, None) => (format!("block {b}"), 17, 16),
+        (Head::Block, Some(plane)) => (format!("block {b} {plane}"), 15, 16),
+        (Head::Words, None) => (b.to_string(), 26, 16),
+        (Head::Words, Some(plane)) => (format!("{b} {plane}"), 22, 16),
+        (Head::Letters, _) => (b.to_string(), 19, 18),
+        (Head::Narrow, _) => (b.to_string(), 10, 12),
     };
     let (upper, lower) = (head + 0.42 * height, head + 0.88 * height);
     let body = format!("y=\"{}\" width=\"{w}\" height=\"{}\"", layout.top, layout.bottom() - layout.top);
@@ -133,7 +135,11 @@ fn legend(layout: &Layout, history: &History) -> Vec<(String, String)> {
     put("<path class=\"edge e3\" d=\"M2 1H26V15H2Z\"/>".into(), "pages of an open change");
     put("<rect class=\"next\" x=\"1\" y=\"1\" width=\"26\" height=\"14\"/>".into(), "page to be programmed next");
     put("<path class=\"pointer\" d=\"M7 2H21L14 14Z\"/>".into(), "pointer: free blocks are taken from here");
-    put("<text x=\"14\" y=\"13\" font-size=\"12\" text-anchor=\"middle\">▲3</text>".into(), "mark: its change has 3 pages; v: version");
+    let sign = |sign: &str| format!("<text x=\"14\" y=\"13\" font-size=\"12\" text-anchor=\"middle\">{sign}</text>");
+    put(sign("▲3"), "mark: its change has 3 pages; v: version");
+    if layout.plane(0).is_some() {
+        put(sign("#2"), "write number: the second write of its change");
+    }
     items
 }
 
@@ -310,6 +316,31 @@ mod tests {
         assert_eq!(broken("short", 9.0), ["short"]);
         assert_eq!(broken("one; two; three", 7.0), ["one; two; ", "three"]);
         assert_eq!(broken("a part that is too long; b", 3.0), ["a part that is too long; ", "b"]);
+    }
+
+    #[test]
+    fn planes_numbers_and_pages_that_run_are_drawn_and_explained() {
+        let mut session = Session::default();
+        let mut svg_after = |lines: &[&str]| {
+            lines.iter().for_each(|line| assert!(session.line(line, &mut Vec::new()).is_ok(), "{line}"));
+            svg(session.world.as_ref().unwrap())
+        };
+        let running = svg_after(&["format-to-the-end 8 8 16 2", "begin 5", "write 5 3 1", "write 5 4 2", "write 5 3 3"]);
+        let cell = |svg: &str, k: usize| svg.split("<g class=").find(|part| part.contains(&format!("id=\"p{k}\""))).unwrap_or("").to_string();
+        for (k, number) in [(16, 1), (24, 2)] {
+            let words = format!("TxID 5, TxVer 0, Kind 0 data, Reserved {number}, ");
+            let cell = cell(&running, k);
+            assert!(cell.contains(&words) && cell.contains(">R<") && cell.contains(&format!(">id 5 #{number}<")), "{cell}");
+        }
+        for part in [">block 2 even<", ">block 3 odd<", "; running: 16 24<", KINDS[Look::Running as usize].words, "write number: "] {
+            assert!(running.contains(part), "{part}");
+        }
+        let on = svg_after(&["write 5 4 4"]);
+        assert!(cell(&on, 16).contains(">A<") && cell(&on, 17).contains(">R<") && cell(&on, 24).contains(">R<"));
+        let done = svg_after(&["commit 5"]);
+        assert!(!done.contains(">R<") && !done.contains("running"));
+        let one = svg_after(&["format-to-the-end 8 8 16", "begin 5", "write 5 3 1", "write 5 4 2"]);
+        assert!(one.contains(">block 2<") && !one.contains(">R<") && !one.contains("Reserved") && !one.contains("write number"));
     }
 
     #[test]

@@ -4,14 +4,15 @@ use crate::{
     ranges,
     words::{class_words, page_name, plural},
 };
-use bokuhira::{Call, Class, Geometry, Kind, State, Store, PAGE, STATE};
+use bokuhira::{Call, Class, Geometry, Kind, State, Store, CHANGE_PAGES, PAGE, STATE};
 
-/// Where a state's bytes count the blocks of each zone and the pages of each place, and where the work under way stands: offsets of
-/// include/bokuhira.h.
-const COUNTS: [usize; 3] = [9, 136, 263];
-const WORK: usize = 275;
-const STRIDE: usize = 276;
-const PLACES: usize = 278;
+/// Where a state's bytes count the blocks of each zone and the pages of each place, and where the work under way and the last plane stand:
+/// offsets of include/bokuhira.h.
+const COUNTS: [usize; 3] = [11, 138, 265];
+const WORK: usize = 277;
+const STRIDE: usize = 278;
+const LAST: usize = 280;
+const PLACES: usize = 281;
 const PLACE: usize = 325;
 const PLACE_COUNT: usize = 4;
 const PLACE_DROPS: usize = 261;
@@ -29,12 +30,13 @@ pub fn why(store: &Store, call: &Call) -> Option<String> {
     }
 }
 
-/// Why bytes encode no state: a page of a place that is neither a write nor a drop, or the work under way.
+/// Why bytes encode no state: a page of a place that is neither a write nor a drop, the last plane, or the work under way.
 fn no_state(store: &Store) -> String {
     let drops = |i: usize| &store.state[PLACES + PLACE * i + PLACE_DROPS..PLACES + PLACE * (i + 1)];
     let odd = (0..8).find_map(|i| drops(i).iter().position(|d| *d > 1).map(|j| (i, j)));
     match odd {
         Some((i, j)) => format!("place {i}: {} for its page {j}: 0, a write, or 1, a drop, is expected", drops(i)[j]),
+        None if store.state[LAST] > 2 => format!("last plane {}: 0, neither, 1, even, or 2, odd, is expected", store.state[LAST]),
         None => format!("work of kind {} with stride number {}", store.state[WORK], stride(store)),
     }
 }
@@ -58,8 +60,9 @@ fn frame(store: &Store, state: &State) -> Option<String> {
 fn place(g: Geometry, store: &Store, state: &State, i: usize) -> Option<String> {
     let (p, count) = (&state.places[i], store.state[PLACES + PLACE * i + PLACE_COUNT]);
     let shared = || (i + 1..8).find(|j| p.id != 0 && state.places[*j].id == p.id);
+    let most = if g.planes == 2 { CHANGE_PAGES } else { 64 };
     match p.id {
-        _ if count > 64 => Some(format!("{count} pages: at most 64 are allowed")),
+        _ if count as usize > most => Some(format!("{count} pages: at most {most} are allowed")),
         0 if count > 0 => Some(format!("{count} pages without an identifier")),
         0xFFFF_FFFF => Some(format!("identifier {}", p.id)),
         _ => p.lpns.iter().find(|lpn| **lpn >= g.logical).map(|lpn| format!("LPN {lpn}, with {}", plural(g.logical as usize, "logical page"))),
@@ -153,6 +156,8 @@ mod tests {
                 "a state of # bytes",
                 "bytes that are no state: work of kind # with stride number #",
                 "bytes that are no state: place #: # for its page #",
+                "bytes that are no state: last plane #",
+                "# planes: # to # are allowed",
                 "# blocks: # to # are allowed",
                 "an array of # bytes",
                 "a map of # entries",

@@ -21,11 +21,15 @@ const GROUPS: [(&str, &[Word]); 4] = [
     (
         "The layer's calls",
         &[
-            word("format", "format [BLOCKS PAGES LOGICAL]", "one stride of a format; 255 more until it is done"),
-            word("format-to-the-end", "format-to-the-end [BLOCKS PAGES LOGICAL]", "a whole format, as in: format-to-the-end 8 8 16"),
+            word("format", "format [BLOCKS PAGES LOGICAL [PLANES]]", "one stride of a format; 255 more until it is done"),
+            word(
+                "format-to-the-end",
+                "format-to-the-end [BLOCKS PAGES LOGICAL [PLANES]]",
+                "a whole format, as in: format-to-the-end 8 8 16; of one plane, or of as many as are said ('help planes')",
+            ),
             word(
                 "recover",
-                "recover [BLOCKS PAGES LOGICAL]",
+                "recover [BLOCKS PAGES LOGICAL [PLANES]]",
                 "power is back: makes map and state from what stands on the flash; where it refuses, why ('help refusals')",
             ),
             word("begin", "begin ID", "opens a change"),
@@ -45,8 +49,8 @@ const GROUPS: [(&str, &[Word]); 4] = [
         &[
             word(
                 "cut",
-                "cut [CALL / HOW]",
-                "the power fails in that call, with the bits that HOW names turned; alone, between two calls ('help how')",
+                "cut [CALL / HOW [/ PAGE HOW ..]] or cut between [/ PAGE HOW ..]",
+                "the power fails in that call, with the bits that HOW names turned; alone, between two calls ('help how', 'help planes')",
             ),
             word(
                 "sweep",
@@ -76,7 +80,7 @@ const GROUPS: [(&str, &[Word]); 4] = [
             word("save", "save FILE", "writes the lines carried out so far, errors left out, as a script: 'lab run FILE' does the same again"),
             word(
                 "import",
-                "import FILE [BLOCKS PAGES LOGICAL]",
+                "import FILE [BLOCKS PAGES LOGICAL [PLANES]]",
                 "a dump as the flash; without numbers the file must begin with the three lines of report; numbers given here are taken instead of those lines",
             ),
             word("export", "export FILE [raw]", "writes the flash, with the three lines of report before it unless raw"),
@@ -92,9 +96,9 @@ const TRACES: [Word; 11] = [
     word("byte", "byte I X", "sets byte I of the array"),
     word("map", "map LPN PAGE", "sets a map entry"),
     word("state", "state STATE", "sets the state, in the words of the trace format"),
-    word("blank", "blank BLOCKS PAGES LOGICAL", "another flash, of zero bytes, not formatted"),
+    word("blank", "blank BLOCKS PAGES LOGICAL [PLANES]", "another flash, of zero bytes, not formatted"),
     word("dark", "dark [map=N hold=N]", "as a cut between two calls; the lost map and hold are filled with these numbers"),
-    word("keep", "keep", "remembers the world; until 'back' each call starts from the world as it stands then"),
+    word("keep", "keep", "remembers the world; until 'back' or a cut each call starts from the world as it stands then"),
     word("back", "back", "puts the remembered world back"),
     word("class", "class PAGE", "whether that page is erased, whole or torn, and by how much, as in: class 16 = torn 65327"),
     word("torn", "torn", "how many pages in scan order are torn, as report prints it"),

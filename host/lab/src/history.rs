@@ -72,7 +72,7 @@ impl History {
         for (k, page) in world.pages.list.iter().enumerate() {
             let same = self.stamps[k] == world.pages.stamps[k];
             let cell = Cell {
-                look: look_of(page, view.fates[k], view.holds[k]),
+                look: if world.runs(k) { Look::Running } else { look_of(page, view.fates[k], view.holds[k]) },
                 edges: edges(&view, &world.pages.list, k),
                 words: if same { self.cells[k].words } else { self.word(words(world, k)) },
             };

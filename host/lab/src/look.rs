@@ -3,7 +3,7 @@ use crate::{
     data::data_words,
     pages::Page,
     view::{Fate, Hold, View, Zone},
-    words::{plural, torn_words},
+    words::{plural, running_words, torn_words},
     world::World,
 };
 use bokuhira::{Call, Class, Refusal};
@@ -42,6 +42,7 @@ pub enum Look {
     HoldsAnother,
     CommittedDrop,
     DeadDrop,
+    Running,
 }
 
 /// A kind of cell: its class in the style sheet, its letter, and its words in the legend.
@@ -56,7 +57,7 @@ const fn kind(look: Look, css: &'static str, letter: &'static str, words: &'stat
     Kind { look, css, letter, words }
 }
 
-pub const KINDS: [Kind; 31] = [
+pub const KINDS: [Kind; 32] = [
     kind(Look::Erased, "e", "", "erased"),
     kind(Look::Active, "a", "A", "active: its change is open"),
     kind(Look::CommittedHolds, "c h", "C", "committed, and holds"),
@@ -88,6 +89,7 @@ pub const KINDS: [Kind; 31] = [
     kind(Look::HoldsAnother, "b h", "L", "holds another logical page than its LPN says, or is a drop and yet holds"),
     kind(Look::CommittedDrop, "c", "U", "committed drop: it unmaps its logical page"),
     kind(Look::DeadDrop, "d", "U", "dead drop: it unmapped its logical page"),
+    kind(Look::Running, "w", "R", "runs: its program may not have ended"),
 ];
 
 /// The kind of a page.
@@ -182,7 +184,7 @@ fn group(view: &View, pages: &[Page], k: usize) -> Group {
 pub struct Words {
     /// What it is, with its number.
     pub one: String,
-    /// Whose it is; of a torn one, which is nobody's, by how much it is torn.
+    /// Whose it is, and which write of it; of a torn one, which is nobody's, by how much it is torn.
     pub two: String,
     /// A mark's count of pages.
     pub mark: String,
@@ -206,14 +208,16 @@ pub fn words(world: &World, k: usize) -> Words {
         (Class::Whole, kind) => {
             let lpn = format!("{} {}", if p.is_drop() { "drop" } else { "LPN" }, p.lpn);
             let (version, none) = (format!("v{}", p.ver), String::new);
+            let number = |sign: &str| if p.reserved == 0 { none() } else { format!("{sign}{}", p.reserved) };
             let (one, two, mark, version) = match (kind, p.id, p.cnt) {
                 (1, ..) => (format!("map {}", p.lpn), format!("checkpt {}", p.ver), none(), none()),
                 (2, ..) => ("zones".into(), format!("checkpt {}", p.ver), none(), none()),
                 (_, 0, _) => (lpn, "lone".into(), none(), version),
-                (_, id, 0) => (lpn, format!("id {id}"), none(), none()),
-                (_, id, n) => (lpn, format!("id {id}"), format!("▲{n}"), version),
+                (_, id, 0) => (lpn, format!("id {id}{}", number(" #")), none(), none()),
+                (_, id, n) => (lpn, format!("id {id}{}", number(" #")), format!("▲{n}"), version),
             };
-            let fields = format!("LPN {}, TxCnt {}, TxID {}, TxVer {}, Kind {} {}", p.lpn, p.cnt, p.id, p.ver, p.kind, p.kind_word());
+            let kind_words = format!("{} {}{}", p.kind, p.kind_word(), number(", Reserved "));
+            let fields = format!("LPN {}, TxCnt {}, TxID {}, TxVer {}, Kind {kind_words}", p.lpn, p.cnt, p.id, p.ver);
             let data = if kind == 0 { format!(", data {}", data_words(world.data(k))) } else { String::new() };
             Words { one, two, mark, version, tell: format!("whole; {fields}{data}"), id: if p.is_of_change() { p.id } else { 0 } }
         }
@@ -236,7 +240,8 @@ pub fn state_line(world: &World) -> String {
     };
     let bad = world.reason(&Call::Read(0), Refusal(1)).map_or(String::new(), |why| format!("; until a recover, calls answer 1 bad frame: {why}"));
     let mapped = plural(world.mapped_count(), "logical page");
-    format!("last version {}, checkpoint {}, {mapped} mapped; {open}{work}{bad}", s.version, s.checkpoint)
+    let running = running_words(world).map_or(String::new(), |words| format!("; {words}"));
+    format!("last version {}, checkpoint {}, {mapped} mapped; {open}{work}{running}{bad}", s.version, s.checkpoint)
 }
 
 #[cfg(test)]
@@ -246,6 +251,6 @@ mod tests {
     #[test]
     fn every_look_finds_its_own_kind() {
         assert!(KINDS.iter().enumerate().all(|(i, kind)| kind.look as usize == i));
-        assert_eq!(Look::DeadDrop as usize, KINDS.len() - 1);
+        assert_eq!(Look::Running as usize, KINDS.len() - 1);
     }
 }

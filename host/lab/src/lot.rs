@@ -22,12 +22,13 @@ impl Lot {
         from[self.below(from.len() as u64) as usize]
     }
 
-    /// A small geometry; once in six one of two map pages.
+    /// A small geometry, of one plane or two; once in six one of two map pages.
     pub fn geometry(&mut self) -> Geometry {
-        match self.below(6) {
+        let g = match self.below(6) {
             0 => Geometry::new(24, 16, 250 + self.below(38) as u16),
             _ => Geometry::new(8 + self.below(4) as u16, 8 + self.below(3) as u16, 10 + self.below(7) as u16),
-        }
+        };
+        g.with_planes(1 + self.below(2) as u16)
     }
 
     pub fn call(&mut self, logical: u16) -> Call {
@@ -104,7 +105,9 @@ impl Lot {
             8 => (2, 7),
             _ => (0, 0),
         };
-        let (kind, reserved) = self.pick(&[(0, 0), (0, 0), (0, 0), (0, 0), (3, 0), (3, 0), (1, 0), (2, 0), (4, 0), (0, 1), (3, 1)]);
+        let kind = self.pick(&[0, 0, 0, 0, 0, 3, 3, 3, 1, 2, 4]);
+        let number = if g.planes == 2 && id != 0 { 1 + self.below(6) as u8 } else { 0 };
+        let reserved = self.pick(&[number, number, number, number, number, number, number, 0, 1, 2, 42]);
         whole_page(&[7; DATA], lpn, cnt, id, ver, kind, reserved)
     }
 
@@ -156,7 +159,7 @@ impl Lot {
                 store.map[at] = self.pick(&[0, 2 * g.pages - 1, 2 * g.pages, 2 * g.pages, g.blocks * g.pages]);
             }
             4 if store.state.len() > 300 => {
-                let at = self.pick(&[9, 136, 263, 264, 273, 274, 275, 276, 278 + 4, 278 + 5, 278 + 133, 278 + 261, 278 + 325 + 324]);
+                let at = self.pick(&[11, 138, 265, 266, 275, 276, 277, 278, 280, 281 + 4, 281 + 5, 281 + 133, 281 + 261, 281 + 325 + 324]);
                 store.state[at] = self.pick(&[0, 1, 2, 3, 4, 5, 9, 65, 127, 255]);
             }
             _ => self.spoil_state(g, store),
@@ -167,7 +170,8 @@ impl Lot {
         let Some(mut s) = State::decode(&store.state) else { return };
         let (byte, half) = (self.pick(&[0, 1, 2, 3, 5, 7, 8, 9, 127]), self.pick(&[0, 1, 7, 8, 9, 10, 64, 65, 129, 1025]));
         let i = self.below(8) as usize;
-        match self.below(16) {
+        match self.below(17) {
+            16 => s.geometry.planes = self.pick(&[0, 1, 2, 3, 257]),
             0 => s.geometry.blocks = half,
             1 => s.geometry.pages = half,
             2 => s.geometry.logical = half,
@@ -188,7 +192,7 @@ impl Lot {
             12 => s.places[i].id = self.pick(&[0, 1, 2, 0xFFFF_FFFF]),
             _ => {
                 let (lpn, ppn) = (self.pick(&[0, 0, g.logical]), self.pick(&[2 * g.pages, 2 * g.pages, 2 * g.pages - 1]));
-                let pages = self.pick(&[1, 2, 64, 65]);
+                let pages = self.pick(&[1, 2, 41, 42, 64, 65]);
                 let drop = self.below(2) == 0;
                 s.places[i] = Place { id: self.pick(&[0, 1, 2, 3]), lpns: vec![lpn; pages], ppns: vec![ppn; pages - 1], drops: vec![drop; pages] };
             }

@@ -23,6 +23,8 @@ mod progress;
 mod prompt;
 mod ranges;
 mod report;
+#[path = "../../tests/common/running.rs"]
+mod running;
 mod script;
 mod session;
 mod show;
@@ -45,7 +47,7 @@ use std::process::ExitCode;
 const USAGE: &str = "\
 lab                                      commands from the keyboard, one a line; 'help' lists them
 lab run SCRIPT [--html FILE] [--svg FILE]    runs a script; draws its steps as a page, its end as a picture
-lab show IMAGE [BLOCKS PAGES LOGICAL] [--html FILE] [--svg FILE]
+lab show IMAGE [BLOCKS PAGES LOGICAL [PLANES]] [--html FILE] [--svg FILE]
                                          recovers a dump and shows all of it; where recover refuses, why
 lab help [WORD]                          the commands
 ";
@@ -85,7 +87,9 @@ fn main() -> ExitCode {
             ["help", word] => help::text(Some(&word.to_lowercase())).and_then(|t| out.say(&t)),
             ["run", script] => run(script, &a.pictures, &mut out),
             ["show", image] => show_image(&format!("import {}", quoted(image)), &a.pictures, &mut out),
-            ["show", image, b, p, l] => show_image(&format!("import {} {b} {p} {l}", quoted(image)), &a.pictures, &mut out),
+            ["show", image, _, _, _] | ["show", image, _, _, _, _] => {
+                show_image(&format!("import {} {}", quoted(image), words[2..].join(" ")), &a.pictures, &mut out)
+            }
             _ => Err(format!("usage:\n{USAGE}")),
         }
     });

@@ -1,6 +1,6 @@
 //! The parts of a line: numbers, geometries, data, calls, and which due bits a cut turns.
 use crate::{
-    cut::{Amount, How},
+    cut::{Amount, How, Left},
     data::seeded,
     files, help,
     tokens::Token,
@@ -56,9 +56,11 @@ impl Words<'_> {
         value.filter(|v| *v <= top).ok_or_else(|| format!("{} is no {what}: a number from 0 to {top} is expected", self.shown(at)))
     }
 
-    pub fn geometry_at(&self, at: usize) -> Result<Geometry, String> {
+    /// A geometry: blocks, pages, logical pages, and maybe planes.
+    pub fn geometry_at(&self, at: usize, end: usize) -> Result<Geometry, String> {
         let n = |i: usize, what: &str| self.number(at + i, what, 0xFFFF).map(|v| v as u16);
         let g = Geometry::new(n(0, "number of blocks")?, n(1, "number of pages")?, n(2, "number of logical pages")?);
+        let g = g.with_planes(if end > at + 3 { n(3, "number of planes")? } else { 1 });
         if g.array_len() > files::ROOM {
             return Err(format!(
                 "{} blocks of {} pages are more than the lab has room for: at most 128 blocks of 64 pages are allowed",
@@ -71,7 +73,7 @@ impl Words<'_> {
     /// The geometry behind `format` or `recover`, or the one there is.
     pub fn geometry_or(&self, at: usize, end: usize) -> Result<Geometry, String> {
         match (end > at, self.geometry) {
-            (true, _) => self.geometry_at(at),
+            (true, _) => self.geometry_at(at, end),
             (false, Some(g)) => Ok(g),
             (false, None) => Err("there is no flash yet: give blocks, pages and logical pages, as in: format-to-the-end 8 8 16".into()),
         }
@@ -110,11 +112,11 @@ impl Words<'_> {
         let lpn = |i: usize| inner.number(i, "logical page", 0xFFFF).map(|v| v as u16);
         let call = match inner.word(0) {
             Some("format") => {
-                inner.exactly(if n > 1 { 4 } else { 1 }, n)?;
+                inner.exactly(if n > 1 { n.clamp(4, 5) } else { 1 }, n)?;
                 Call::Format(inner.geometry_or(1, n)?)
             }
             Some("recover") => {
-                inner.exactly(if n > 1 { 4 } else { 1 }, n)?;
+                inner.exactly(if n > 1 { n.clamp(4, 5) } else { 1 }, n)?;
                 Call::Recover(inner.geometry_or(1, n)?)
             }
             Some("begin") => {
@@ -179,8 +181,35 @@ impl Words<'_> {
         }
     }
 
-    pub fn how(&self, at: usize) -> Result<How, String> {
-        let n = self.tokens.len() - at;
+    /// What stands behind the first / of a cut: which bits of the call's operation, or `early`, and then each page that runs with its bits.
+    pub fn left(&self, at: usize) -> Result<Left, String> {
+        let end = self.slash(at);
+        let early = self.word(at) == Some("early") && end == at + 1;
+        let how = if early { How::None } else { self.how(at, end)? };
+        Ok(Left { early, how, running: self.running(end)? })
+    }
+
+    /// Each `/ PAGE HOW` from here to the end.
+    pub fn running(&self, at: usize) -> Result<Vec<(usize, How)>, String> {
+        let (mut at, mut running) = (at, Vec::new());
+        while at < self.tokens.len() {
+            if self.word(at) != Some("/") {
+                return self.usage();
+            }
+            let end = self.slash(at + 1);
+            running.push((self.number(at + 1, "page number", 0xFFFF)? as usize, self.how(at + 2, end)?));
+            at = end;
+        }
+        Ok(running)
+    }
+
+    /// Where the next / stands, or the end.
+    fn slash(&self, at: usize) -> usize {
+        (at..self.tokens.len()).find(|i| self.tokens[*i] == Token::Word("/".into())).unwrap_or(self.tokens.len())
+    }
+
+    fn how(&self, at: usize, end: usize) -> Result<How, String> {
+        let n = end.saturating_sub(at);
         let bits = |i: usize| self.number(at + i, "number of bits", u32::MAX as u64).map(|v| v as usize);
         match (self.word(at), n) {
             (Some("none"), 1) => Ok(How::None),

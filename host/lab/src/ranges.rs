@@ -12,6 +12,7 @@ pub fn geometry(g: Geometry) -> Option<String> {
     outside(g.blocks as usize, "blocks", 8, 128)
         .or_else(|| outside(g.pages as usize, "pages a block", 8, 64))
         .or_else(|| outside(g.logical as usize, &format!("logical pages with {} blocks of {} pages", g.blocks, g.pages), 1, most.min(1024)))
+        .or_else(|| outside(g.planes as usize, "planes", 1, 2))
 }
 
 /// Geometry and buffer lengths: all that recover looks at for refusal 1.

@@ -2,10 +2,11 @@
 use crate::{trace, world::World};
 use bokuhira::{Answer, Call};
 
-/// What the program report prints: a recovery of this array, on a copy.
+/// What the program report prints: a recovery of this array, on a copy. It takes every flash for one of one plane.
 pub fn report(world: &World) -> String {
-    let mut copy = World::import(world.geometry, world.store.array.clone());
-    let (answer, _) = copy.call(&Call::Recover(world.geometry));
+    let g = world.geometry.with_planes(1);
+    let mut copy = World::import(g, world.store.array.clone());
+    let (answer, _) = copy.call(&Call::Recover(g));
     match (copy.state(), copy.torn_count()) {
         (Some(s), Some(torn)) if answer == Answer::Done => {
             let z = &s.zones;

@@ -2,7 +2,7 @@
 //! format; data may also be a text in quotes, and `format` and `recover` may leave out the geometry once there is one.
 use crate::{
     command::{Command, Line, Order, Show},
-    cut::How,
+    cut::{How, Left},
     pages::whole_page,
     parse::Words,
     tokens::{tokens, Token},
@@ -50,11 +50,12 @@ impl Words<'_> {
         }
         let slash = self.tokens.iter().position(|t| *t == Token::Word("/".into()));
         match (self.word(0).unwrap_or(""), n) {
-            ("format-to-the-end", 1 | 4) => Ok(Command::FormatToTheEnd(self.geometry_or(1, n)?)),
+            ("format-to-the-end", 1 | 4 | 5) => Ok(Command::FormatToTheEnd(self.geometry_or(1, n)?)),
             ("until-done", _) => Ok(Command::UntilDone(self.call_due(1, n)?)),
-            ("cut", 1) => Ok(Command::Cut(None, How::None)),
+            ("cut", 1) => Ok(Command::Cut(None, How::None.into())),
+            ("cut", _) if self.word(1) == Some("between") => Ok(Command::Cut(None, Left { early: true, how: How::None, running: self.running(2)? })),
             ("cut", _) => match slash {
-                Some(s) => Ok(Command::Cut(Some(self.call_due(1, s)?), self.how(s + 1)?)),
+                Some(s) => Ok(Command::Cut(Some(self.call_due(1, s)?), self.left(s + 1)?)),
                 None => self.usage(),
             },
             ("dark", 1) => Ok(Command::Dark { map: 0, hold: 0 }),
@@ -65,7 +66,7 @@ impl Words<'_> {
                 };
                 Ok(Command::Dark { map: value(1, "map=", 0xFFFF)? as u16, hold: value(2, "hold=", 255)? as u8 })
             }
-            ("blank", 4) => Ok(Command::Blank(self.geometry_at(1)?)),
+            ("blank", 4 | 5) => Ok(Command::Blank(self.geometry_at(1, n)?)),
             ("keep", 1) => Ok(Command::Keep),
             ("back", 1) => Ok(Command::Back),
             ("state", _) if n > 1 => {
@@ -126,7 +127,7 @@ impl Words<'_> {
             ("export", 2) => Ok(Command::Export { file: self.name(1), raw: false }),
             ("export", 3) if self.word(2) == Some("raw") => Ok(Command::Export { file: self.name(1), raw: true }),
             ("import", 2) => Ok(Command::Import { file: self.name(1), geometry: None }),
-            ("import", 5) => Ok(Command::Import { file: self.name(1), geometry: Some(self.geometry_at(2)?) }),
+            ("import", 5 | 6) => Ok(Command::Import { file: self.name(1), geometry: Some(self.geometry_at(2, n)?) }),
             ("save", 2) => Ok(Command::Save(self.name(1))),
             ("report", 1) => Ok(Command::Report(None)),
             ("report", 2) => Ok(Command::Report(Some(self.name(1)))),
@@ -181,7 +182,7 @@ mod tests {
     #[test]
     fn the_labs_words_may_be_in_capitals_and_names_stay_as_written() {
         assert_eq!(command("BEGIN 5"), Command::Call(Call::Begin(5)));
-        assert_eq!(command("Cut COMMIT 5 / But Last"), Command::Cut(Some(Call::Commit(5)), How::ButLast));
+        assert_eq!(command("Cut COMMIT 5 / But Last"), Command::Cut(Some(Call::Commit(5)), How::ButLast.into()));
         assert_eq!(command("SHOW Cut BITS"), Command::Show(Show::CutBits));
         assert_eq!(command("Export Dump.IMG RAW"), Command::Export { file: "Dump.IMG".into(), raw: true });
         assert_eq!(command("SAY \"VLAN 20\""), Command::Say("VLAN 20".into()));
@@ -216,8 +217,17 @@ mod tests {
 
     #[test]
     fn cuts_name_their_bits() {
-        assert_eq!(command("cut commit 5 / first 10%"), Command::Cut(Some(Call::Commit(5)), How::First(Amount::Percent(10))));
-        assert_eq!(command("cut"), Command::Cut(None, How::None));
+        assert_eq!(command("cut commit 5 / first 10%"), Command::Cut(Some(Call::Commit(5)), How::First(Amount::Percent(10)).into()));
+        assert_eq!(command("cut"), Command::Cut(None, How::None.into()));
+        let left = |early: bool, how: How, running: &[(usize, How)]| Left { early, how, running: running.to_vec() };
+        let commit = |left: Left| Command::Cut(Some(Call::Commit(5)), left);
+        assert_eq!(command("cut commit 5 / all / 17 but 3 / 24 none"), commit(left(false, How::All, &[(17, How::But(3)), (24, How::None)])));
+        assert_eq!(command("cut commit 5 / early / 17 all"), commit(left(true, How::None, &[(17, How::All)])));
+        assert_eq!(command("cut between / 17 all"), Command::Cut(None, left(true, How::None, &[(17, How::All)])));
+        assert_eq!(command("cut between"), Command::Cut(None, left(true, How::None, &[])));
+        for line in ["cut between all", "cut between /", "cut commit 5 / all /", "cut commit 5 / early all", "cut commit 5 / all / 17"] {
+            assert!(parse(line, None).is_err(), "{line}");
+        }
         assert!(parse("cut commit 5 / every 0 0", None).is_err());
         assert!(parse("cut commit 5", None).is_err());
     }

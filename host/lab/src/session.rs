@@ -1,7 +1,7 @@
 //! A session: the world, the steps so far, and the carrying out of one line after another.
 use crate::{
     command::{Command, Line},
-    cut::How,
+    cut::Left,
     draw, files, help,
     history::History,
     out::unwritable,
@@ -22,6 +22,8 @@ use std::io::Write;
 pub struct Session {
     pub world: Option<World>,
     kept: Option<World>,
+    /// Between keep and back, until a cut: each call from the same world.
+    same: bool,
     pub history: History,
     /// How many commands were carried out.
     pub done: usize,
@@ -78,9 +80,10 @@ impl Session {
                 let name = text.split_once(char::is_whitespace).map_or("", |(_, call)| call.trim());
                 self.until_done(name, call, line.expected.as_deref(), &mut say)?
             }
-            Command::Cut(call, how) => say(&format!("{}\n", self.cut(text, call.as_ref(), *how, line.expected.as_deref())?))?,
+            Command::Cut(call, left) => say(&format!("{}\n", self.cut(text, call.as_ref(), left, line.expected.as_deref())?))?,
             Command::Dark { map, hold } => {
                 self.world_mut()?.dark(*map, *hold);
+                self.same = false;
                 say(&format!("{text}: the state is lost\n"))?;
                 self.record(text, "the state is lost");
             }
@@ -89,8 +92,11 @@ impl Session {
                 say(&format!("{text}: a new flash of zero bytes\n"))?;
                 self.record(text, "a new flash of zero bytes");
             }
-            Command::Keep => self.kept = Some(self.world_mut()?.clone()),
-            Command::Back => self.world = Some(self.kept.take().ok_or("nothing was kept: 'keep' comes before 'back'")?),
+            Command::Keep => (self.kept, self.same) = (Some(self.world_mut()?.clone()), true),
+            Command::Back => {
+                let kept = self.kept.take().ok_or("nothing was kept: 'keep' comes before 'back'")?;
+                (self.world, self.same) = (Some(kept), false);
+            }
             Command::State(_) | Command::Map(..) | Command::Byte(..) | Command::Page { .. } => {
                 let said = spoil(self.world_mut()?, &line.command)?;
                 say(&format!("{text}: {said}\n"))?;
@@ -178,10 +184,10 @@ impl Session {
         }
     }
 
-    /// One call with what is expected of it. After `keep` the world is put back.
+    /// One call with what is expected of it. After `keep` the world is put back, until a cut.
     fn call(&mut self, text: &str, call: &Call, expected: Option<&str>) -> Result<String, String> {
-        let kept = self.kept.is_some();
-        let before = if kept || expected.is_some() { Some(self.world_mut()?.clone()) } else { None };
+        let same = self.same;
+        let before = if same || expected.is_some() { Some(self.world_mut()?.clone()) } else { None };
         let world = self.world_mut()?;
         let (answer, op) = world.call(call);
         let said = call_line(text, world, call, answer, op);
@@ -196,7 +202,7 @@ impl Session {
             }
         }
         match before {
-            Some(before) if kept => self.world = Some(before),
+            Some(before) if same => self.world = Some(before),
             _ => self.record(text, said_of(text, &said)),
         }
         Ok(said)
@@ -204,7 +210,7 @@ impl Session {
 
     /// A call again and again; each is said as it is done.
     fn until_done(&mut self, name: &str, call: &Call, expected: Option<&str>, say: &mut dyn FnMut(&str) -> Result<(), String>) -> Result<(), String> {
-        if self.kept.is_some() {
+        if self.same {
             return Err("between keep and back each call starts anew: until-done has no end there".into());
         }
         let before = expected.map(|_| (self.world.clone(), self.history.clone()));
@@ -261,10 +267,10 @@ impl Session {
         Ok(format!("{text}: {said}"))
     }
 
-    fn cut(&mut self, text: &str, call: Option<&Call>, how: How, expected: Option<&str>) -> Result<String, String> {
+    fn cut(&mut self, text: &str, call: Option<&Call>, left: &Left, expected: Option<&str>) -> Result<String, String> {
         let before = self.world_mut()?.clone();
         let world = self.world_mut()?;
-        world.cut(call, how, text);
+        world.cut(call, left, text)?;
         let found = format!("array={}", trace::array_digest(&world.store.array));
         if expected.is_some_and(|e| e != found) {
             self.world = Some(before);
@@ -272,7 +278,7 @@ impl Session {
         }
         let cut = world.cut.as_ref().expect("the cut that fell");
         let turned = cut.turned_words();
-        let said = match cut.op {
+        let mut said = match cut.op {
             Op::Nothing => cut.nothing.clone(),
             Op::Program(k) => {
                 format!(
@@ -283,6 +289,10 @@ impl Session {
             }
             Op::Erase(b) => format!("power lost in the erase of block {b}; {turned}"),
         };
+        for r in &cut.ran {
+            said += &format!("; {}, it is {}", r.words(world.geometry), class_words(world.pages.list[r.page].class));
+        }
+        self.same = false;
         self.record(text, &said);
         Ok(format!("{text}: {said}"))
     }

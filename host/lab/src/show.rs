@@ -4,7 +4,7 @@ use crate::{
     data::data_words,
     trace::kind_word,
     view::{Fate, Hold, View, Zone},
-    words::{class_words, lpn_words, numbers, page_name, plural, torn_words},
+    words::{class_words, lpn_words, numbers, page_name, plane_word, plural, torn_words},
     world::World,
 };
 use bokuhira::{Class, Kind, DATA, UNMAPPED};
@@ -119,14 +119,28 @@ fn checkpoints(world: &World, view: &View) -> String {
     text
 }
 
-/// A page's transaction, and whether the page holds.
+/// The plane of a block, as in ", even plane"; nothing where there is but one.
+fn plane_words(world: &World, b: usize) -> String {
+    plane_word(world.geometry, b).map_or(String::new(), |plane| format!(", {plane} plane"))
+}
+
+/// Said of a page that runs.
+fn runs_words(world: &World, k: usize) -> &'static str {
+    if world.runs(k) {
+        ", runs"
+    } else {
+        ""
+    }
+}
+
+/// A page's transaction, whether the page runs, and whether it holds.
 fn fate_words(world: &World, view: &View, k: usize) -> String {
     let p = &world.pages.list[k];
     let fate = match (p.class, view.clauses.get(&k)) {
         (Class::Torn(_), _) => format!("belongs to nobody ({})", torn_words(p)),
         (_, Some(clause)) => format!("{}: {clause}", view.fates[k].word()),
         _ => view.fates[k].word().into(),
-    };
+    } + runs_words(world, k);
     match view.holds[k] {
         Hold::Unknown | Hold::No => fate,
         Hold::Yes => fate + ", holds",
@@ -152,17 +166,23 @@ fn shown(world: &World, view: &View, b: usize) -> Range<usize> {
 
 fn block(world: &World, view: &View, b: usize) -> String {
     let clean = view.clean(&world.pages.list, b);
-    let mut text = format!("block {b}, {}, {}{}\n", view.zones[b].word(), plural(clean, "clean page"), holds_unknown(view, b));
+    let (plane, zone) = (plane_words(world, b), view.zones[b].word());
+    let mut text = format!("block {b}{plane}, {zone}, {}{}\n", plural(clean, "clean page"), holds_unknown(view, b));
     let shown = shown(world, view, b);
+    // the write numbers, where there are any
+    let number = |text: &str| if plane.is_empty() { String::new() } else { format!("  {text:>8}") };
     if !shown.is_empty() {
-        text += "  page  class      LPN  TxCnt        TxID       TxVer  Kind  transaction\n";
+        text += &format!("  page  class      LPN  TxCnt        TxID       TxVer  Kind{}  transaction\n", number("Reserved"));
     }
     for k in shown {
         let (p, fate) = (&world.pages.list[k], fate_words(world, view, k));
         let line = match p.class {
-            Class::Whole => format!("  {k:4}  whole    {:5}  {:5}  {:10}  {:10}  {:4}  {fate}", p.lpn, p.cnt, p.id, p.ver, p.kind_word()),
+            Class::Whole => {
+                let (kind, number) = (p.kind_word(), number(&p.reserved.to_string()));
+                format!("  {k:4}  whole    {:5}  {:5}  {:10}  {:10}  {kind:4}{number}  {fate}", p.lpn, p.cnt, p.id, p.ver)
+            }
             Class::Erased if fate.is_empty() => format!("  {k:4}  erased"),
-            class => format!("  {k:4}  {:6}       -      -           -           -     -  {fate}", class.word()),
+            class => format!("  {k:4}  {:6}       -      -           -           -     -{}  {fate}", class.word(), number("-")),
         };
         text += line.trim_end();
         text += "\n";
@@ -173,7 +193,8 @@ fn block(world: &World, view: &View, b: usize) -> String {
 fn page(world: &World, view: &View, k: usize) -> String {
     let p = &world.pages.list[k];
     let b = k / world.geometry.pages as usize;
-    let mut text = format!("{}, {}: {}\n", page_name(world.geometry, k), view.zones[b].word(), class_words(p.class));
+    let (plane, zone) = (plane_words(world, b), view.zones[b].word());
+    let mut text = format!("{}{plane}, {zone}: {}\n", page_name(world.geometry, k), class_words(p.class));
     if let (Class::Erased | Class::Torn(_), Hold::Yet(lpn)) = (p.class, view.holds[k]) {
         text += &format!("  and yet holds LPN {lpn}: a read gives its data as they stand\n");
     }
@@ -230,7 +251,7 @@ fn changes(world: &World) -> String {
         text += &format!("  place {i}: identifier {}, {} written\n", p.id, plural(p.lpns.len(), "page"));
         let written: Vec<String> = p.lpns.iter().zip(&p.drops).map(|(lpn, drop)| lpn_words(*drop, *lpn)).collect();
         for (lpn, k) in written.iter().zip(&p.ppns) {
-            text += &format!("    {lpn} in {}\n", page_name(world.geometry, *k as usize));
+            text += &format!("    {lpn} in {}{}\n", page_name(world.geometry, *k as usize), runs_words(world, *k as usize));
         }
         if let Some(lpn) = written.last() {
             text += &format!("    {lpn} held: {}\n", data_words(&world.store.hold[i * DATA..(i + 1) * DATA]));

@@ -1,6 +1,6 @@
 //! The longer explanations behind `help`.
 
-pub const TOPICS: [(&str, &str); 8] = [
+pub const TOPICS: [(&str, &str); 9] = [
     (
         "how",
         "HOW says which of the due bits a cut leaves turned. The due bits are those that the call's one\n\
@@ -12,6 +12,21 @@ pub const TOPICS: [(&str, &str); 8] = [
          \x20 every N R      those whose index leaves R when divided by N\n\
          Example: cut commit 5 / first 10%\n\
          A call that is refused has no due bits: the power then fails between two calls.",
+    ),
+    (
+        "planes",
+        "On a flash of two planes, as in: format-to-the-end 8 8 16 2, even and odd blocks are programmed together.\n\
+         The next data page comes from the other plane than the last, if it has clean pages, and a page of a\n\
+         change carries its write number in Reserved: of two writes of a logical page the higher one holds.\n\
+         A write or a drop may answer while the page that it programs still runs. The array holds it already;\n\
+         a cut leaves any part of its due bits turned. It runs until the next program in its plane begins, a\n\
+         commit or a lone write is done, or a checkpoint, reclaim, format or recover begins. Calls say which run,\n\
+         'show block' says it too, and a picture with R.\n\
+         \x20 cut CALL / HOW / PAGE HOW ..     HOW of the call's own bits, and of each page that runs beside it\n\
+         \x20 cut CALL / early / PAGE HOW ..   before the call's operation begins: every page that runs is cut\n\
+         \x20 cut between / PAGE HOW ..        between two calls\n\
+         Of a page that is not named every bit is turned, and so it is in a sweep. A mark may be whole while an\n\
+         earlier page of its change is torn: such a change is not committed.",
     ),
     (
         "sweep",
@@ -40,7 +55,8 @@ pub const TOPICS: [(&str, &str); 8] = [
          \x20                   is above the last version in the newest checkpoint: a recovery enters it\n\
          \x20 dead              over: the newest checkpoint's map has its outcome, and a recovery does not redo\n\
          \x20                   it. The count agrees with TxVer not above that version; or other pages of its\n\
-         \x20                   change have left the scan, and its mark has such a TxVer or a page of it holds\n\
+         \x20                   change have left the scan, and a page of it holds or, on one plane, its mark has\n\
+         \x20                   such a TxVer\n\
          \x20 abandoned         none of these, and all of its change is in scan order: aborted or lost in a cut\n\
          \x20 not committed in the scan\n\
          \x20                   dead or abandoned, and nobody can tell which: pages of its change may have\n\
@@ -48,6 +64,7 @@ pub const TOPICS: [(&str, &str); 8] = [
          \x20 outside the scan  in a checkpointed or free block: a recovery no longer looks at it, and nothing\n\
          \x20                   on it tells whether it was committed or abandoned\n\
          \x20 bad page          a scanned whole page that makes recover answer 4, and what is wrong with it\n\
+         \x20 runs              on two planes: its program may not have ended ('help planes')\n\
          \x20 holds             the map points to this page: a read gives it. Committed, dead and outside the\n\
          \x20                   scan say nothing of it; only the map does\n\
          \x20 and yet holds     the map points to it, and a read gives it as it stands, though it is torn, erased\n\

@@ -1,7 +1,7 @@
 //! What a trace says behind `=`: digests, states as words, and whether a call or a cut agrees with it.
 use crate::pages::Op;
 use crate::world::World;
-use bokuhira::{Answer, Class, Geometry, Kind, Place, Refusal, State, Store, Work, Zones, PAGE};
+use bokuhira::{Answer, Class, Geometry, Kind, Place, Plane, Refusal, State, Store, Work, Zones, PAGE};
 use std::collections::HashMap;
 
 /// 64-bit FNV-1a.
@@ -26,6 +26,8 @@ fn left(store: &Store) -> String {
 
 const KINDS: [(&str, Kind); 4] = [("idle", Kind::Idle), ("format", Kind::Format), ("checkpoint", Kind::Checkpoint), ("reclaim", Kind::Reclaim)];
 
+const PLANES: [(&str, Plane); 3] = [("neither", Plane::Neither), ("even", Plane::Even), ("odd", Plane::Odd)];
+
 pub fn kind_word(kind: Kind) -> &'static str {
     KINDS[kind as usize].0
 }
@@ -34,6 +36,7 @@ pub fn commas<T: ToString>(list: &[T]) -> String {
     list.iter().map(T::to_string).collect::<Vec<_>>().join(",")
 }
 
+/// A state in words; one plane and neither last plane are left out.
 fn state_words(s: &State) -> String {
     let places: Vec<String> = s
         .places
@@ -48,8 +51,10 @@ fn state_words(s: &State) -> String {
         })
         .collect();
     let (g, z) = (s.geometry, &s.zones);
+    let planes = if g.planes == 1 { String::new() } else { format!(" {}", g.planes) };
+    let last = if s.last == Plane::Neither { String::new() } else { format!(" last={}", PLANES[s.last as usize].0) };
     format!(
-        "{} {} {} available={} unavailable={} free={} pointer={} version={} checkpoint={} front={}:{} work={}:{} places={}",
+        "{} {} {}{planes} available={} unavailable={} free={} pointer={} version={} checkpoint={} front={}:{} work={}:{}{last} places={}",
         g.blocks,
         g.pages,
         g.logical,
@@ -67,20 +72,29 @@ fn state_words(s: &State) -> String {
     )
 }
 
+/// What a call left, with one plane and neither last plane left out.
+fn in_brief(said: &str) -> String {
+    let Some((before, state)) = said.split_once("state ") else { return said.into() };
+    let words = state.split(' ').enumerate().filter(|(i, w)| (*i, *w) != (3, "1") && *w != "last=neither").map(|(_, w)| w);
+    format!("{before}state {}", words.collect::<Vec<_>>().join(" "))
+}
+
 /// The state that these words are.
 pub fn state_of(words: &[&str]) -> Option<State> {
     let n = |i: usize| words.get(i)?.parse::<u16>().ok();
+    let planes = if words.get(3)?.contains('=') { 1 } else { n(3)? };
     let fields: HashMap<&str, &str> = words.get(3..)?.iter().filter_map(|w| w.split_once('=')).collect();
     let list = |name: &str| -> Option<Vec<u8>> { fields.get(name)?.split(',').filter(|x| !x.is_empty()).map(|x| x.parse().ok()).collect() };
     let (front, first) = fields.get("front")?.split_once(':')?;
     let (kind, stride) = fields.get("work")?.split_once(':')?;
+    let last = fields.get("last").copied().unwrap_or("neither");
     let from = words.iter().position(|w| w.starts_with("places="))?;
     let mut places = Vec::new();
     for i in 0..8 {
         places.push(place_of(words.get(from + i)?.trim_start_matches("places="))?);
     }
     Some(State {
-        geometry: Geometry::new(n(0)?, n(1)?, n(2)?),
+        geometry: Geometry::new(n(0)?, n(1)?, n(2)?).with_planes(planes),
         zones: Zones {
             available: list("available")?,
             unavailable: list("unavailable")?,
@@ -92,6 +106,7 @@ pub fn state_of(words: &[&str]) -> Option<State> {
         front: front.parse().ok()?,
         first: first.parse().ok()?,
         work: Work { kind: KINDS.iter().find(|(k, _)| *k == kind)?.1, stride: stride.parse().ok()? },
+        last: PLANES.iter().find(|(p, _)| *p == last)?.1,
         places,
     })
 }
@@ -140,6 +155,7 @@ pub fn agrees(said: &str, answer: Answer, op: Op, before: &Store, world: &World)
         return Err(format!("expected {said}, and the answer is {number}"));
     }
     let Some(rest) = words.next() else { return Ok(()) };
+    let (rest, said_running) = rest.split_once(" running=").unwrap_or((rest, ""));
     let (said_op, said_left) = match rest.strip_prefix('(').and_then(|r| r.split_once(") ")) {
         Some((op, left)) => (Some(op), left),
         None => (None, rest),
@@ -159,12 +175,21 @@ pub fn agrees(said: &str, answer: Answer, op: Op, before: &Store, world: &World)
             return Err(format!("expected ({said_op}), and the call did {op:?}"));
         }
     }
+    let running = running_words(world);
+    if running != said_running {
+        return Err(format!("expected running={said_running}, found running={running}"));
+    }
     let found = if said_left == "same" && world.store == *before { "same".into() } else { left(&world.store) };
-    if found == said_left {
+    if found == in_brief(said_left) {
         Ok(())
     } else {
         Err(format!("expected {said_left}\n  found {found}"))
     }
+}
+
+/// The pages that run, by page number.
+fn running_words(world: &World) -> String {
+    world.running.iter().map(|r| format!("{}@{}", r.id, r.page)).collect::<Vec<_>>().join(",")
 }
 
 /// The same for what was found without a call, a class or how many pages are torn.

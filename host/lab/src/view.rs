@@ -5,7 +5,7 @@ use crate::{
     pages::Page,
     why::{bad_pages, Why},
 };
-use bokuhira::{Class, Geometry, Kind, State};
+use bokuhira::{Class, Geometry, Kind, Plane, State};
 use std::collections::{HashMap, HashSet};
 
 #[derive(Clone, Copy, PartialEq, Eq, Debug)]
@@ -155,9 +155,21 @@ impl View {
         let clauses = HashMap::new();
         let mut view = View { geometry: g, zones, available, unavailable, pointer, fates, holds, clauses, checkpoints, newest, next: None, refused };
         view.judge(pages, state);
-        let with_room = state.and_then(|_| view.available.iter().map(|b| *b as usize).find(|b| view.clean(pages, *b) > 0));
-        view.next = with_room.map(|b| view.block(b).end - view.clean(pages, b));
+        view.next = state.and_then(|s| view.next_page(pages, s));
         view
+    }
+
+    /// The first clean page of an available block, in zone order; on two planes one of the other plane than the last, if it has any.
+    fn next_page(&self, pages: &[Page], state: &State) -> Option<usize> {
+        let other = |b: &usize| match state.last {
+            _ if self.geometry.planes != 2 => false,
+            Plane::Neither => false,
+            Plane::Even => b % 2 == 1,
+            Plane::Odd => b.is_multiple_of(2),
+        };
+        let with_room = || self.available.iter().map(|b| *b as usize).filter(|b| self.clean(pages, *b) > 0);
+        let taken = with_room().find(other).or_else(|| with_room().next());
+        taken.map(|b| self.block(b).end - self.clean(pages, b))
     }
 
     /// Whether the zones are known, and with them the scan order.
@@ -240,11 +252,14 @@ impl View {
 
     /// What became of a change that is not active, by its whole pages in scan order. Where no mark's count agrees, pages have left the scan,
     /// or the change was never committed. A checkpoint lets no page leave while its change is open or has a page in a block that stays
-    /// available; so a change with a mark above the checkpoint's last version, or with a page in an available block, is all there.
+    /// available; so a change with a mark above the checkpoint's last version, or with a page in an available block, is all there. On one plane a
+    /// whole mark is one of a committed change; on two a page that ran beside it may have been lost.
     fn change(&self, pages: &[Page], list: &[usize]) -> Fate {
         let marks: Vec<&Page> = list.iter().map(|k| &pages[*k]).filter(|p| p.cnt != 0 && p.ver != 0).collect();
-        let settled = marks.iter().any(|p| p.ver <= self.last_version()) || list.iter().any(|k| self.holds[*k] == Hold::Yes);
-        let all_there = !marks.is_empty() || list.iter().any(|k| self.zone(*k) == Zone::Available);
+        let below = self.geometry.planes != 2 && marks.iter().any(|p| p.ver <= self.last_version());
+        let settled = below || list.iter().any(|k| self.holds[*k] == Hold::Yes);
+        let above = marks.iter().any(|p| p.ver > self.last_version());
+        let all_there = above || list.iter().any(|k| self.zone(*k) == Zone::Available);
         match marks.iter().find(|p| p.cnt as usize == list.len()) {
             Some(mark) => self.over(mark.ver),
             None if settled => Fate::Dead,

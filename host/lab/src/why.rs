@@ -7,7 +7,7 @@ use crate::{
     ranges,
     words::{class_words, page_name, page_words, plural, refusal_words},
 };
-use bokuhira::{Geometry, Refusal, Store, DATA, PAGE, UNMAPPED};
+use bokuhira::{Geometry, Refusal, Store, CHANGE_PAGES, DATA, PAGE, UNMAPPED};
 use std::collections::{BTreeSet, HashMap};
 
 #[derive(Clone, PartialEq, Eq, Debug)]
@@ -120,15 +120,17 @@ fn bad_checkpoint(g: Geometry, array: &[u8], c: &Checkpoint) -> Option<(usize, S
 
 /// The scanned whole pages that refusal 4 is about, each with its clause.
 pub fn bad_pages(g: Geometry, pages: &[Page], scan: impl Iterator<Item = usize>) -> Vec<(usize, String)> {
-    let (mut marks, mut versions) = (HashMap::new(), HashMap::new());
+    let (mut marks, mut versions, mut numbers) = (HashMap::new(), HashMap::new(), HashMap::new());
     let mut bad = Vec::new();
     for k in scan.filter(|k| pages[*k].is_whole()) {
         let p = &pages[k];
         let mark = if p.id != 0 && p.cnt != 0 { marks.insert(p.id, k) } else { None };
         let version = if p.ver != 0 { versions.insert(p.ver, k) } else { None };
-        let again = || match (mark, version) {
-            (Some(first), _) => Some(format!("second mark of identifier {}, after page {first}", p.id)),
-            (_, Some(first)) => Some(format!("TxVer {} a second time, after page {first}", p.ver)),
+        let number = if g.planes == 2 && p.id != 0 { numbers.insert((p.id, p.reserved), k) } else { None };
+        let again = || match (mark, version, number) {
+            (Some(first), ..) => Some(format!("second mark of identifier {}, after page {first}", p.id)),
+            (_, Some(first), _) => Some(format!("TxVer {} a second time, after page {first}", p.ver)),
+            (.., Some(first)) => Some(format!("write number {} of identifier {} a second time, after page {first}", p.reserved, p.id)),
             _ => None,
         };
         bad.extend(clause(g, p).or_else(again).map(|words| (k, words)));
@@ -136,12 +138,21 @@ pub fn bad_pages(g: Geometry, pages: &[Page], scan: impl Iterator<Item = usize>)
     bad
 }
 
+/// On two planes Reserved of a change's page is its write number, else 0.
+fn number_good(g: Geometry, p: &Page) -> bool {
+    if g.planes == 2 && p.id != 0 {
+        (1..=CHANGE_PAGES).contains(&(p.reserved as usize))
+    } else {
+        p.reserved == 0
+    }
+}
+
 /// What refusal 4 sees on a page by itself.
 fn clause(g: Geometry, p: &Page) -> Option<String> {
     let top = 0xFFFF_FFFF;
     match p {
         _ if !p.is_of_change() => Some(format!("Kind {}", p.kind)),
-        _ if p.reserved != 0 => Some(format!("Reserved {}", p.reserved)),
+        _ if !number_good(g, p) => Some(format!("Reserved {}", p.reserved)),
         _ if p.lpn >= g.logical => Some(format!("LPN {}, with {}", p.lpn, plural(g.logical as usize, "logical page"))),
         _ if (p.cnt == 0) != (p.ver == 0) => Some(format!("TxCnt {} with TxVer {}: only one is zero", p.cnt, p.ver)),
         _ if p.id == top => Some(format!("TxID {top}")),
@@ -176,7 +187,7 @@ mod tests {
     fn a_reason_is_found_exactly_when_the_proved_recover_refuses() {
         let mut met = HashSet::new();
         let mut times = [0; 5];
-        for seed in 0..6000 {
+        for seed in 0..20000 {
             let mut lot = Lot(seed);
             let g = lot.geometry();
             let mut store = lot.lived(g);
@@ -187,6 +198,7 @@ mod tests {
                 0 => Geometry { blocks: lot.below(140) as u16, ..g },
                 1 => Geometry { pages: lot.below(70) as u16, ..g },
                 2 => Geometry { logical: lot.below(1100) as u16, ..g },
+                3 => Geometry { planes: lot.below(4) as u16, ..g },
                 _ => g,
             };
             if lot.below(20) == 0 {
@@ -213,6 +225,7 @@ mod tests {
                 "# blocks: # to # are allowed",
                 "# pages a block:",
                 "# logical pages with # blocks of # pages: # to # are allowed",
+                "# planes: # to # are allowed",
                 "an array of # bytes",
                 "a map of # entries",
                 "a hold of # bytes",
@@ -241,6 +254,7 @@ mod tests {
                 "TxID # with TxCnt #",
                 "second mark of identifier #, after page #",
                 "TxVer # a second time, after page #",
+                "write number # of identifier # a second time, after page #",
                 "(and # more)",
             ],
         );

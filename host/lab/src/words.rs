@@ -43,16 +43,17 @@ pub fn lpn_words(drop: bool, lpn: u16) -> String {
     format!("{}LPN {lpn}", if drop { "drop of " } else { "" })
 }
 
-/// The fields of a whole page in words.
+/// The fields of a whole page in words; its write number, which only pages of a change on two planes have, with them.
 pub fn page_words(p: &Page) -> String {
     let lpn = lpn_words(p.is_drop(), p.lpn);
+    let number = if p.reserved == 0 { String::new() } else { format!(", write number {}", p.reserved) };
     match (p.kind, p.id, p.cnt) {
         (1, ..) => format!("map page {} of checkpoint {}", p.lpn, p.ver),
         (2, ..) => format!("zone page of checkpoint {}", p.ver),
         (4.., ..) => format!("{lpn}, identifier {}, kind {}", p.id, p.kind),
         (_, 0, _) => format!("{lpn}, lone, version {}", p.ver),
-        (_, id, 0) => format!("{lpn}, identifier {id}"),
-        (_, id, n) => format!("{lpn}, identifier {id}, mark: {}, version {}", plural(n as usize, "page"), p.ver),
+        (_, id, 0) => format!("{lpn}, identifier {id}{number}"),
+        (_, id, n) => format!("{lpn}, identifier {id}{number}, mark: {}, version {}", plural(n as usize, "page"), p.ver),
     }
 }
 
@@ -89,7 +90,19 @@ pub fn call_line(text: &str, world: &World, call: &Call, answer: Answer, op: Op)
     if !done.is_empty() {
         parts.push(done);
     }
+    parts.extend(running_words(world));
     parts.join("; ")
+}
+
+/// The pages that run, as in "running: 16 24"; none where none does.
+pub fn running_words(world: &World) -> Option<String> {
+    let pages: Vec<usize> = world.running.iter().map(|r| r.page).collect();
+    (!pages.is_empty()).then(|| format!("running: {}", numbers(&pages)))
+}
+
+/// The plane of a block, where there are two.
+pub fn plane_word(g: Geometry, b: usize) -> Option<&'static str> {
+    (g.planes == 2).then_some(if b.is_multiple_of(2) { "even" } else { "odd" })
 }
 
 /// The block that the stride of a format or a checkpoint just erased.
@@ -101,9 +114,10 @@ fn erased_again(world: &World) -> Option<u16> {
     }
 }
 
-/// As in "8 blocks of 8 pages, 16 logical pages".
+/// As in "8 blocks of 8 pages, 16 logical pages"; of other than one plane with their number.
 pub fn geometry_words(g: Geometry) -> String {
-    format!("{} of {}, {}", plural(g.blocks as usize, "block"), plural(g.pages as usize, "page"), plural(g.logical as usize, "logical page"))
+    let planes = if g.planes == 1 { String::new() } else { format!(", {}", plural(g.planes as usize, "plane")) };
+    format!("{} of {}, {}{planes}", plural(g.blocks as usize, "block"), plural(g.pages as usize, "page"), plural(g.logical as usize, "logical page"))
 }
 
 /// A number of things: one has no s.

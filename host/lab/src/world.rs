@@ -1,12 +1,14 @@
-//! A flash with the layer's buffers, the book beside it, and the cut that fell last. Every call goes through the proved library.
+//! A flash with the layer's buffers, the book beside it, the pages that run, and the cut that fell last. Every call goes through the proved
+//! library.
 use crate::{
     book::Book,
-    cut::{due_bits, turn, Cut, How},
+    cut::{due_bits, turn, Cut, How, Left, Ran},
     frame,
     pages::{Op, Pages},
+    running::{Done, Running},
     view::{Source, View},
     why::{self, Why},
-    words::{geometry_words, refusal_words},
+    words::{geometry_words, numbers, refusal_words},
 };
 use bokuhira::{Answer, Call, Geometry, Kind, Refusal, State, Store, DATA, HOLD, PAGE, STATE, UNMAPPED};
 use std::ops::Range;
@@ -22,6 +24,8 @@ pub struct World {
     pub spoilt: bool,
     /// None where no format of this session made the array.
     pub book: Option<Book>,
+    /// By page number.
+    pub running: Vec<Running>,
     pub cut: Option<Cut>,
 }
 
@@ -34,7 +38,7 @@ impl World {
     /// A flash with these bytes, which must be as many as the geometry says.
     pub fn import(g: Geometry, array: Vec<u8>) -> World {
         let pages = Pages::of(&array);
-        World { geometry: g, store: Store { array, ..Store::blank(g) }, pages, lost: true, spoilt: false, book: None, cut: None }
+        World { geometry: g, store: Store { array, ..Store::blank(g) }, pages, lost: true, spoilt: false, book: None, running: Vec::new(), cut: None }
     }
 
     pub fn state(&self) -> Option<State> {
@@ -103,6 +107,10 @@ impl World {
         &self.page_bytes(k)[..DATA]
     }
 
+    pub fn runs(&self, k: usize) -> bool {
+        self.running.iter().any(|r| r.page == k)
+    }
+
     pub fn mapped_count(&self) -> usize {
         self.store.map.iter().filter(|e| **e != UNMAPPED).count()
     }
@@ -115,7 +123,10 @@ impl World {
 
     /// Carries out one call.
     pub fn call(&mut self, call: &Call) -> (Answer, Op) {
+        let before = self.store.clone();
         let answer = self.store.call(call);
+        self.running = Done { call, answer: answer.number(), before: &before, after: &self.store.array }.after(&self.running);
+        self.running.sort_by_key(|r| r.page);
         match (call, answer) {
             (_, Answer::Refused(_)) => (),
             (Call::Format(g), _) => {
@@ -131,30 +142,52 @@ impl World {
         (answer, self.pages.follow(&self.store.array, self.geometry))
     }
 
-    /// The power fails in this call, or between two. The state is lost with it.
-    pub fn cut(&mut self, call: Option<&Call>, how: How, what: &str) {
+    /// The power fails in this call, or between two. The state is lost with it. An error where a page is named that does not run.
+    pub fn cut(&mut self, call: Option<&Call>, left: &Left, what: &str) -> Result<(), String> {
         let mut after = self.store.clone();
         let answer = call.map(|c| after.call(c));
+        let running = match (call, answer) {
+            (Some(call), Some(answer)) if !left.early => {
+                Done { call, answer: answer.number(), before: &self.store, after: &after.array }.during(&self.running)
+            }
+            _ => self.running.clone(),
+        };
+        if let Some((k, _)) = left.running.iter().find(|(k, _)| running.iter().all(|r| r.page != *k)) {
+            let pages: Vec<usize> = running.iter().map(|r| r.page).collect();
+            return Err(format!("page {k} does not run then; pages that do: {}", numbers(&pages)));
+        }
         let nothing = match (call, answer) {
             (Some(call), Some(Answer::Refused(r))) => {
                 let reason = self.reason(call, r).map_or(String::new(), |reason| format!(": {reason}"));
                 format!("the call is refused: {}{reason}; power lost between two calls", refusal_words(r))
             }
+            (Some(_), _) if left.early => "power lost before its operation begins".into(),
             (Some(_), _) => "power lost; no bit was due".into(),
             (None, _) => "power lost between two calls".into(),
         };
-        let due = due_bits(&self.store.array, &after.array);
+        let due = if left.early { Vec::new() } else { due_bits(&self.store.array, &after.array) };
         let op = self.operation(&due);
-        let turned: Vec<bool> = (0..due.len()).map(|i| how.turns(i, due.len())).collect();
+        let turned: Vec<bool> = (0..due.len()).map(|i| left.how.turns(i, due.len())).collect();
         due.iter().zip(&turned).filter(|(_, t)| **t).for_each(|(bit, _)| turn(&mut self.store.array, *bit));
-        let complete = matches!(op, Op::Program(_)) && turned.iter().all(|t| *t);
+        let mut complete = matches!(op, Op::Program(_)) && turned.iter().all(|t| *t);
+        let mut ran = Vec::new();
+        for r in running {
+            let how = left.running.iter().find(|(k, _)| *k == r.page).map_or(How::All, |(_, how)| *how);
+            let due = r.due_bits(&self.store.array).len();
+            let turned: Vec<bool> = (0..due).map(|i| how.turns(i, due)).collect();
+            r.cut(&mut self.store.array, &turned);
+            // of the change's own pages every due bit must be turned
+            complete &= call != Some(&Call::Commit(r.id)) || turned.iter().all(|t| *t);
+            ran.push(Ran { page: r.page, due, turned: turned.iter().filter(|t| **t).count() });
+        }
         match (call, answer) {
             (Some(Call::Format(_)), Some(Answer::Done | Answer::More)) => self.book = None,
             _ => self.book.iter_mut().for_each(|b| b.cut(call, complete)),
         }
         self.pages.follow(&self.store.array, self.geometry);
-        self.cut = Some(Cut { what: what.into(), op, due, turned, nothing });
+        self.cut = Some(Cut { what: what.into(), op, due, turned, nothing, ran });
         self.dark(0, 0);
+        Ok(())
     }
 
     /// What due bits of one operation say about it: a program turns ones, an erase zeros.
@@ -175,6 +208,7 @@ impl World {
         self.store.hold = vec![hold; HOLD];
         self.store.state = vec![0; STATE];
         self.lost = true;
+        self.running.clear();
         if let Some(book) = &mut self.book {
             book.open.clear();
         }
@@ -213,31 +247,68 @@ mod tests {
         let mut marks: Vec<usize> = committed.iter().copied().filter(|k| pages[*k].cnt != 0).collect();
         marks.sort_by_key(|k| pages[*k].ver);
         for mark in marks {
-            for k in committed.iter().filter(|k| **k == mark || (pages[mark].id != 0 && pages[**k].id == pages[mark].id)) {
-                map[pages[*k].lpn as usize] = if pages[*k].is_drop() { UNMAPPED } else { *k as u16 };
+            let of = |k: &usize| *k == mark || (pages[mark].id != 0 && pages[*k].id == pages[mark].id);
+            let mut list: Vec<usize> = committed.iter().copied().filter(of).collect();
+            // on one plane every number is 0
+            list.sort_by_key(|k| pages[*k].reserved);
+            for k in list {
+                map[pages[k].lpn as usize] = if pages[k].is_drop() { UNMAPPED } else { k as u16 };
             }
         }
         map
     }
 
+    /// A call, every second time of a change that is open.
+    fn call_of(lot: &mut Lot, world: &World) -> Call {
+        let mut call = lot.call(world.geometry.logical);
+        let open = world.book.as_ref().map_or(&[][..], |book| &book.open);
+        if let Call::Write { id, .. } | Call::Drop { id, .. } | Call::Commit(id) | Call::Abort(id) = &mut call {
+            if !open.is_empty() && lot.below(2) == 0 {
+                *id = open[lot.below(open.len() as u64) as usize].id;
+            }
+        }
+        call
+    }
+
+    /// A cut with any of these due bits turned, of the call's operation or none of it, and of each page that runs.
+    fn any_cut(lot: &mut Lot, world: &World) -> Left {
+        let hows = [How::None, How::All, How::All, How::First(Amount::Percent(50)), How::ButLast, How::Every(3, 1)];
+        let mut how = || hows[lot.below(6) as usize];
+        let (first, running) = (how(), world.running.iter().map(|r| (r.page, how())).collect());
+        match lot.below(5) {
+            0 => Left { early: true, how: How::None, running },
+            _ => Left { early: false, how: first, running },
+        }
+    }
+
+    /// The same with the pages alone that run beside the call's operation.
+    fn cut_in(world: &mut World, call: &Call, mut left: Left) -> Left {
+        let mut after = world.store.clone();
+        let answer = after.call(call).number();
+        let during = Done { call, answer, before: &world.store, after: &after.array }.during(&world.running);
+        left.running.retain(|(k, _)| left.early || during.iter().any(|r| r.page == *k));
+        world.cut(Some(call), &left, "").unwrap();
+        left
+    }
+
     #[test]
     fn the_view_and_the_book_agree_with_the_proved_recovery() {
-        let mut cuts = 0;
-        for seed in 0..60 {
+        let (mut cuts, mut ran) = (0, 0);
+        for seed in 0..120 {
             let mut lot = Lot(seed);
-            let g = Geometry::new(8 + lot.below(4) as u16, 8 + lot.below(3) as u16, 10 + lot.below(7) as u16);
+            let g = Geometry::new(8 + lot.below(4) as u16, 8 + lot.below(3) as u16, 10 + lot.below(7) as u16).with_planes(1 + seed as u16 % 2);
             let mut world = World::blank(g);
             while world.call(&Call::Format(g)).0 == Answer::More {}
             let mut under_way = Call::Read(0);
             for _ in 0..400 {
-                let call = if matches!(under_way, Call::Read(_)) { lot.call(g.logical) } else { under_way.clone() };
-                if lot.below(25) > 0 {
+                let call = if matches!(under_way, Call::Read(_)) { call_of(&mut lot, &world) } else { under_way.clone() };
+                if lot.below(if world.running.is_empty() { 25 } else { 4 }) > 0 {
                     let (answer, _) = world.call(&call);
                     under_way = if answer == Answer::More { call } else { Call::Read(0) };
                     continue;
                 }
-                let how = [How::None, How::All, How::First(Amount::Percent(50)), How::ButLast, How::Every(3, 1)][lot.below(5) as usize];
-                world.cut(Some(&call), how, "");
+                let left = any_cut(&mut lot, &world);
+                ran += cut_in(&mut world, &call, left).running.len();
                 let seen = redo(&world);
                 let holds = world.view().holds;
                 assert_eq!(world.call(&Call::Recover(g)).0, Answer::Done);
@@ -252,7 +323,7 @@ mod tests {
                 cuts += 1;
             }
         }
-        assert!(cuts > 500, "{cuts} cuts");
+        assert!(cuts > 1_000 && ran > 100, "{cuts} cuts, {ran} pages ran");
     }
 
     /// What truly became of the changes: of each page its change, none for a lone one; and of each change whether it was committed.
@@ -291,25 +362,31 @@ mod tests {
     #[test]
     fn the_word_for_each_page_is_true() {
         let mut met: BTreeMap<(String, bool), usize> = BTreeMap::new();
-        for seed in 0..150 {
+        for seed in 0..300 {
             let mut lot = Lot(seed);
-            let g = Geometry::new(8 + lot.below(3) as u16, 8, 16);
+            let g = Geometry::new(8 + lot.below(3) as u16, 8, 16).with_planes(1 + seed as u16 % 2);
             let mut world = World::blank(g);
             while world.call(&Call::Format(g)).0 == Answer::More {}
             let pages = g.pages as usize;
             let mut truth = Truth { of_page: vec![None; g.blocks as usize * pages], open: HashMap::new(), committed: vec![] };
             let mut under_way = None;
             for _ in 0..600 {
-                let call = under_way.take().unwrap_or_else(|| lot.call(g.logical));
-                if lot.below(60) > 0 {
+                let call = under_way.take().unwrap_or_else(|| call_of(&mut lot, &world));
+                if lot.below(if world.running.is_empty() { 60 } else { 6 }) > 0 {
                     let (answer, op) = world.call(&call);
                     truth.follows(&call, answer == Answer::Done, op, pages);
                     under_way = (answer == Answer::More).then_some(call);
                 } else {
-                    let how = [How::None, How::All, How::First(Amount::Percent(50)), How::ButLast][lot.below(4) as usize];
-                    world.cut(Some(&call), how, "");
+                    let left = any_cut(&mut lot, &world);
+                    let of = |k: usize| truth.of_page[k];
+                    let committed = match &call {
+                        Call::Commit(id) => truth.open.get(id).copied(),
+                        _ => None,
+                    };
+                    let left = cut_in(&mut world, &call, left);
+                    let own = left.running.iter().all(|(k, how)| *how == How::All || of(*k) != committed);
                     let op = world.cut.as_ref().unwrap().op;
-                    truth.follows(&call, how == How::All && matches!(op, Op::Program(_)), op, pages);
+                    truth.follows(&call, left.how == How::All && matches!(op, Op::Program(_)) && own, op, pages);
                     truth.open.clear();
                 }
                 let view = world.view();
@@ -352,7 +429,7 @@ mod tests {
         let g = Geometry::new(8, 8, 16);
         let mut world = World::blank(g);
         assert_eq!(world.call(&Call::Format(g)).0, Answer::More);
-        world.cut(None, How::None, "");
+        world.cut(None, &How::None.into(), "").unwrap();
         assert!(world.book.is_none());
     }
 }

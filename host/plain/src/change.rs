@@ -18,7 +18,7 @@ fn idle<B: Deref<Target = Bytes>>(array: &[u8], map: &[u16], hold: &[u8], state:
 /// The page a change programs next: one block's worth of clean pages stays for reclaim.
 fn next<B: Deref<Target = Bytes>>(pages: &[Page], g: Geometry, state: &State<B>) -> Result<usize, Refusal> {
     let zones = state.zones().ok_or(Refusal::BadFrame)?;
-    next_page(pages, g, zones.available, g.pages + 1).ok_or(Refusal::ZoneShort)
+    next_page(pages, g, zones.available, state.last_plane(), g.pages + 1).ok_or(Refusal::ZoneShort)
 }
 
 fn next_version<B: Deref<Target = Bytes>>(state: &State<B>) -> Result<u32, Refusal> {
@@ -64,7 +64,8 @@ fn add(g: Geometry, array: &mut [u8], hold: &mut [u8], mut state: State<&mut Byt
     if place.count() > 0 {
         let pages = pages_mut(array);
         let k = next(pages, g, &state)?;
-        program(&mut pages[k], held, held_spare(place, 0, 0));
+        program(&mut pages[k], held, held_spare(g, place, 0, 0));
+        state.set_last_plane(g, k);
         programmed = Some(k);
     }
     held.copy_from_slice(data.unwrap_or(&[0xFF; DATA]));
@@ -73,9 +74,9 @@ fn add(g: Geometry, array: &mut [u8], hold: &mut [u8], mut state: State<&mut Byt
 }
 
 /// The spare area of the page that a place holds.
-fn held_spare(place: Place, count: u16, version: u32) -> Spare {
+fn held_spare(g: Geometry, place: Place, count: u16, version: u32) -> Spare {
     let spare = if place.holds_drop() { Spare::dropping } else { Spare::data };
-    spare(place.held(), count, place.id(), version)
+    Spare { reserved: g.write_number(place.count()), ..spare(place.held(), count, place.id(), version) }
 }
 
 pub fn lone(array: &mut [u8], map: &mut [u16], hold: &[u8], mut state: State<&mut Bytes>, lpn: u16, data: &[u8]) -> Outcome {
@@ -87,6 +88,7 @@ pub fn lone(array: &mut [u8], map: &mut [u16], hold: &[u8], mut state: State<&mu
     let k = next(pages, g, &state)?;
     program(&mut pages[k], data, Spare::data(lpn, 1, 0, version));
     map[usize::from(lpn)] = k as u16;
+    state.set_last_plane(g, k);
     state.set_version(version);
     Ok(Answer::Done)
 }
@@ -99,10 +101,11 @@ pub fn commit(array: &mut [u8], map: &mut [u16], hold: &[u8], mut state: State<&
         let version = next_version(&state)?;
         let pages = pages_mut(array);
         let k = next(pages, g, &state)?;
-        program(&mut pages[k], &hold[DATA * i..][..DATA], held_spare(place, place.count() as u16, version));
+        program(&mut pages[k], &hold[DATA * i..][..DATA], held_spare(g, place, place.count() as u16, version));
         for ((lpn, ppn), drop) in place.lpns().zip(place.ppns().chain([k as u16])).zip(place.drops()) {
             map[usize::from(lpn)] = leads(drop, ppn);
         }
+        state.set_last_plane(g, k);
         state.set_version(version);
     }
     state.set_place(i, 0);

@@ -2,7 +2,7 @@
 use crate::flash::{pages, Geometry};
 use crate::page::{is_erased, Page};
 use crate::state::{State, Work};
-use crate::{ensure, Refusal, HOLD, LAST, PLACES, PLACE_PAGES, STATE, UNMAPPED};
+use crate::{ensure, Refusal, HOLD, LAST, PLACES, STATE, UNMAPPED};
 use std::ops::Deref;
 
 /// Geometry and buffer lengths in range.
@@ -43,7 +43,7 @@ fn places_in_range<B: Deref<Target = [u8; STATE]>>(g: Geometry, state: &State<B>
         let place = state.place(i);
         let id = place.id();
         place.is_free()
-            || (id != 0 && id <= LAST && place.count() <= PLACE_PAGES)
+            || (id != 0 && id <= LAST && place.count() <= g.place_pages())
                 && (i + 1..PLACES).all(|j| state.place(j).id() != id)
                 && place.lpns().all(|lpn| usize::from(lpn) < g.logical)
                 && place.ppns().all(|ppn| g.is_data_page(ppn.into()))

@@ -1,7 +1,7 @@
 //! The flash layer of document 01 (docs/PAPERS.md) in plain Rust, written from the papers and apart from the proved one.
 //!
-//! Eleven functions over lent buffers: the array, the map, the hold and the 2,878 bytes of a state. Each answers 0 for done, 255 for more,
-//! else the number of a refusal, which leaves every buffer as it was. Any bytes of any length may be lent. Format and recover take any 2,878
+//! Eleven functions over lent buffers: the array, the map, the hold and the 2,881 bytes of a state. Each answers 0 for done, 255 for more,
+//! else the number of a refusal, which leaves every buffer as it was. Any bytes of any length may be lent. Format and recover take any 2,881
 //! bytes for the state; to the others, bytes that encode none are a bad frame. Two more tell how torn pages are.
 
 mod change;
@@ -24,10 +24,10 @@ pub const PAGE: usize = 528;
 pub const DATA: usize = 512;
 /// The bytes of the hold and of a state.
 pub const HOLD: usize = 4096;
-pub const STATE: usize = 2878;
+pub const STATE: usize = 2881;
 
 const PLACES: usize = 8;
-/// The pages that a place has room for, and those up to which a transaction may be written.
+/// The pages that a place has room for, and those up to which a transaction may be written; also the highest write number.
 const PLACE_PAGES: usize = 64;
 const LONGEST: usize = 41;
 /// The map entry of a logical page that was never written, or was dropped.
@@ -82,19 +82,24 @@ fn ensure(holds: bool, refusal: Refusal) -> Result<(), Refusal> {
     }
 }
 
-/// One stride of a format to B blocks of P pages with L logical pages.
-pub fn format(array: &mut [u8], map: &mut [u16], hold: &[u8], state: &mut [u8], blocks: u16, pages: u16, logical: u16) -> u8 {
-    number(State::any(state).and_then(|s| format::format(array, map, hold, s, flash::Geometry::new(blocks, pages, logical))))
+/// One stride of a format to B blocks of P pages with L logical pages on one or two planes.
+pub fn format(array: &mut [u8], map: &mut [u16], hold: &[u8], state: &mut [u8], blocks: u16, pages: u16, logical: u16, planes: u16) -> u8 {
+    number(State::any(state).and_then(|s| format::format(array, map, hold, s, flash::Geometry::new(blocks, pages, logical, planes))))
 }
 
 /// Makes map and state from what stands on the array.
-pub fn recover(array: &[u8], map: &mut [u16], hold: &[u8], state: &mut [u8], blocks: u16, pages: u16, logical: u16) -> u8 {
-    number(State::any(state).and_then(|s| recover::recover::<recover::Log>(array, map, hold, s, flash::Geometry::new(blocks, pages, logical))))
+pub fn recover(array: &[u8], map: &mut [u16], hold: &[u8], state: &mut [u8], blocks: u16, pages: u16, logical: u16, planes: u16) -> u8 {
+    number(
+        State::any(state).and_then(|s| recover::recover::<recover::Log>(array, map, hold, s, flash::Geometry::new(blocks, pages, logical, planes))),
+    )
 }
 
 /// The same by a program that keeps no list of what it scanned, and rescans.
-pub fn rescan(array: &[u8], map: &mut [u16], hold: &[u8], state: &mut [u8], blocks: u16, pages: u16, logical: u16) -> u8 {
-    number(State::any(state).and_then(|s| recover::recover::<recover::Rescan>(array, map, hold, s, flash::Geometry::new(blocks, pages, logical))))
+pub fn rescan(array: &[u8], map: &mut [u16], hold: &[u8], state: &mut [u8], blocks: u16, pages: u16, logical: u16, planes: u16) -> u8 {
+    number(
+        State::any(state)
+            .and_then(|s| recover::recover::<recover::Rescan>(array, map, hold, s, flash::Geometry::new(blocks, pages, logical, planes))),
+    )
 }
 
 /// Opens a transaction in the lowest free place.

@@ -31,13 +31,14 @@ pub fn reclaim(array: &mut [u8], map: &mut [u16], hold: &[u8], mut state: State<
 
     ensure(state.version() <= LAST - u32::from(due), Refusal::VersionsSpent)?;
     let pages = pages_mut(array);
-    let to = next_page(pages, g, zones.available, due.into()).ok_or(Refusal::ReserveShort)?;
+    let to = next_page(pages, g, zones.available, state.last_plane(), due.into()).ok_or(Refusal::ReserveShort)?;
     let lowest = map.iter().enumerate().filter(|(_, e)| g.block(picked).contains(&usize::from(**e))).min_by_key(|(_, e)| **e);
     let (lpn, &from) = lowest.expect("a mapped page is in the block");
     array.copy_within(usize::from(from) * PAGE..usize::from(from) * PAGE + DATA, to * PAGE);
     let version = state.version() + 1;
     seal(&mut pages_mut(array)[to], Spare::data(lpn as u16, 1, 0, version));
     map[lpn] = to as u16;
+    state.set_last_plane(g, to);
     state.set_version(version);
     state.set_work(Work::Reclaim);
     Ok(Answer::More)

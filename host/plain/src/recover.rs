@@ -5,7 +5,8 @@ use crate::frame;
 use crate::page::{is_whole, leads, Page, Spare};
 use crate::state::State;
 use crate::zones::Zones;
-use crate::{ensure, Answer, Outcome, Refusal, DATA, LAST, STATE, UNMAPPED};
+use crate::{ensure, Answer, Outcome, Refusal, DATA, LAST, LONGEST, STATE, UNMAPPED};
+use std::ops::RangeInclusive;
 
 /// What a scan finds, and how it is redone.
 pub trait Scan<'a>: Sized {
@@ -67,11 +68,13 @@ struct Entry {
     version: u32,
     count: u16,
     lpn: u16,
+    /// Its write number on two planes, else 0.
+    number: u8,
     /// What its logical page is mapped to once it is entered.
     leads: u16,
 }
 
-/// The whole pages, those of one transaction together and in scan order, and the highest version.
+/// The whole pages, those of one transaction together and in the order in which they are applied, and the highest version.
 pub struct Log {
     entries: Vec<Entry>,
     highest: u32,
@@ -91,17 +94,26 @@ impl<'a> Scan<'a> for Log {
         for (ppn, page) in zones.scan(pages, g).filter(|(_, p)| is_whole(p)) {
             let s = Spare::of(page);
             ensure(good(s, g), Refusal::BadPage)?;
-            entries.push(Entry { id: s.id, version: s.version, count: s.count, lpn: s.lpn, leads: leads(s.is_drop(), ppn as u16) });
+            entries.push(Entry {
+                id: s.id,
+                version: s.version,
+                count: s.count,
+                lpn: s.lpn,
+                number: s.reserved,
+                leads: leads(s.is_drop(), ppn as u16),
+            });
             if s.version != 0 {
                 versions.push(s.version);
             }
         }
         versions.sort_unstable();
         ensure(versions.windows(2).all(|w| w[0] != w[1]), Refusal::BadPage)?;
-        // stable: the pages of one transaction stay in scan order
-        entries.sort_by_key(|e| e.id);
+        // stable: on one plane, where no page has a number, the pages of one transaction stay in scan order
+        entries.sort_by_key(|e| (e.id, e.number));
         let log = Log { entries, highest: versions.last().copied().unwrap_or(0) };
         ensure(log.transactions().all(|t| t.iter().filter(|p| p.count != 0).count() <= 1), Refusal::BadPage)?;
+        let repeated = |t: &[Entry]| t.windows(2).any(|w| w[0].number == w[1].number);
+        ensure(!g.two_planes() || !log.transactions().any(repeated), Refusal::BadPage)?;
         Ok(log)
     }
 
@@ -128,10 +140,19 @@ impl<'a> Scan<'a> for Log {
     }
 }
 
+/// The write numbers of a transaction's pages.
+fn numbers(s: Spare, g: Geometry) -> RangeInclusive<u8> {
+    if g.two_planes() && s.id != 0 {
+        1..=LONGEST as u8
+    } else {
+        0..=0
+    }
+}
+
 /// What refusal 4 asks of a whole page by itself.
 fn good(s: Spare, g: Geometry) -> bool {
     (s.kind == 0 || s.is_drop())
-        && s.reserved == 0
+        && numbers(s, g).contains(&s.reserved)
         && usize::from(s.lpn) < g.logical
         && (s.count == 0) == (s.version == 0)
         && s.id <= LAST
@@ -169,6 +190,8 @@ impl<'a> Scan<'a> for Rescan<'a> {
             ensure(good(s, g), Refusal::BadPage)?;
             let again = |t: Spare| t.version == s.version || s.id != 0 && t.id == s.id && t.count != 0;
             ensure(s.count == 0 || !found.whole().take(i).any(|(_, t)| again(t)), Refusal::BadPage)?;
+            let same = |t: Spare| t.id == s.id && t.reserved == s.reserved;
+            ensure(s.reserved == 0 || !found.whole().take(i).any(|(_, t)| same(t)), Refusal::BadPage)?;
         }
         Ok(found)
     }
@@ -181,7 +204,10 @@ impl<'a> Scan<'a> for Rescan<'a> {
         let mut last = floor;
         while let Some((ppn, mark)) = self.whole().filter(|(_, s)| s.version > last).min_by_key(|(_, s)| s.version) {
             if self.of(ppn, mark).count() == usize::from(mark.count) {
-                self.of(ppn, mark).for_each(|(n, s)| map[usize::from(s.lpn)] = leads(s.is_drop(), n as u16));
+                for number in numbers(mark, self.g) {
+                    let numbered = self.of(ppn, mark).filter(|(_, s)| s.reserved == number);
+                    numbered.for_each(|(n, s)| map[usize::from(s.lpn)] = leads(s.is_drop(), n as u16));
+                }
             }
             last = mark.version;
         }

@@ -2,33 +2,35 @@
 //!
 //! | Offset | Bytes | Field |
 //! |---|---|---|
-//! | 0, 2, 4 | 2 each | blocks, pages, logical pages |
-//! | 6, 9 | 3, 1 | available blocks, their number |
-//! | 10, 136 | 126, 1 | unavailable blocks, their number |
-//! | 137, 263 | 126, 1 | free blocks, their number |
-//! | 264 | 1 | pointer |
-//! | 265, 269 | 4 each | last version, checkpoint number |
-//! | 273, 274 | 1 each | front block, first page of a checkpoint under way |
-//! | 275, 276 | 1, 2 | kind of the work under way, stride number |
-//! | 278 | 8 × 325 | places: TxID (4), count (1), 64 logical and 64 physical page numbers (2 each), 64 times 0 for a write or 1 for a drop |
-use crate::flash::Geometry;
+//! | 0, 2, 4, 6 | 2 each | blocks, pages, logical pages, planes |
+//! | 8, 11 | 3, 1 | available blocks, their number |
+//! | 12, 138 | 126, 1 | unavailable blocks, their number |
+//! | 139, 265 | 126, 1 | free blocks, their number |
+//! | 266 | 1 | pointer |
+//! | 267, 271 | 4 each | last version, checkpoint number |
+//! | 275, 276 | 1 each | front block, first page of a checkpoint under way |
+//! | 277, 278 | 1, 2 | kind of the work under way, stride number |
+//! | 280 | 1 | plane of the last data block page: 0 neither, 1 even, 2 odd |
+//! | 281 | 8 × 325 | places: TxID (4), count (1), 64 logical and 64 physical page numbers (2 each), 64 times 0 for a write or 1 for a drop |
+use crate::flash::{Geometry, Plane};
 use crate::zones::Zones;
 use crate::{ensure, Refusal, PLACES, PLACE_PAGES, STATE};
 use std::ops::{Deref, DerefMut};
 
 type Bytes = [u8; STATE];
 
-const AVAILABLE: usize = 6;
-const UNAVAILABLE: usize = 10;
-const FREE: usize = 137;
-const POINTER: usize = 264;
-const VERSION: usize = 265;
-const CHECKPOINT: usize = 269;
-const FRONT: usize = 273;
-const FIRST: usize = 274;
-const KIND: usize = 275;
-const STRIDE: usize = 276;
-const PLACE: usize = 278;
+const AVAILABLE: usize = 8;
+const UNAVAILABLE: usize = 12;
+const FREE: usize = 139;
+const POINTER: usize = 266;
+const VERSION: usize = 267;
+const CHECKPOINT: usize = 271;
+const FRONT: usize = 275;
+const FIRST: usize = 276;
+const KIND: usize = 277;
+const STRIDE: usize = 278;
+const LAST_PLANE: usize = 280;
+const PLACE: usize = 281;
 const PLACE_BYTES: usize = DROPS + PLACE_PAGES;
 /// Within a place: the logical pages, the physical ones, and which of them are drops.
 const LPNS: usize = 5;
@@ -142,13 +144,14 @@ fn halves(bytes: &[u8]) -> impl Iterator<Item = u16> + '_ {
 }
 
 impl<B: Deref<Target = Bytes>> State<B> {
-    /// Whether the bytes are a state's: the work under way is of a known kind, and every page of a place is a write or a drop.
+    /// Whether the bytes are a state's: the work under way is of a known kind, the last plane is known, and every page of a place is a write or
+    /// a drop.
     pub fn encoded(&self) -> bool {
-        work_in(&self.0).is_some() && self.places().all(|p| p.0[DROPS..].iter().fold(0, |all, d| all | d) <= 1)
+        work_in(&self.0).is_some() && self.0[LAST_PLANE] <= 2 && self.places().all(|p| p.0[DROPS..].iter().fold(0, |all, d| all | d) <= 1)
     }
 
     pub fn geometry(&self) -> Geometry {
-        Geometry::new(half(&self.0, 0), half(&self.0, 2), half(&self.0, 4))
+        Geometry::new(half(&self.0, 0), half(&self.0, 2), half(&self.0, 4), half(&self.0, 6))
     }
 
     /// The zone lists; none where a count is above its list's room.
@@ -182,6 +185,15 @@ impl<B: Deref<Target = Bytes>> State<B> {
         work_in(&self.0).unwrap_or(Work::Idle)
     }
 
+    /// The plane of the last data block page; none after a format or a recover.
+    pub fn last_plane(&self) -> Option<Plane> {
+        match self.0[LAST_PLANE] {
+            1 => Some(Plane::Even),
+            2 => Some(Plane::Odd),
+            _ => None,
+        }
+    }
+
     pub fn place(&self, i: usize) -> Place<'_> {
         Place(&self.0[PLACE + PLACE_BYTES * i..][..PLACE_BYTES])
     }
@@ -207,6 +219,7 @@ impl<B: DerefMut<Target = Bytes>> State<B> {
         self.put(0, (g.blocks as u16).to_le_bytes());
         self.put(2, (g.pages as u16).to_le_bytes());
         self.put(4, (g.logical as u16).to_le_bytes());
+        self.put(6, (g.planes as u16).to_le_bytes());
         self.0[POINTER] = 2;
     }
 
@@ -241,6 +254,16 @@ impl<B: DerefMut<Target = Bytes>> State<B> {
         };
         self.0[KIND] = kind;
         self.put(STRIDE, (stride as u16).to_le_bytes());
+    }
+
+    /// Page k of a data block was programmed.
+    pub fn set_last_plane(&mut self, g: Geometry, k: usize) {
+        if g.two_planes() {
+            self.0[LAST_PLANE] = match Plane::of(k / g.pages) {
+                Plane::Even => 1,
+                Plane::Odd => 2,
+            };
+        }
     }
 
     /// Gives a place to a transaction without pages; identifier 0 frees it.

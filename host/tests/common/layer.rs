@@ -60,8 +60,8 @@ impl Layer {
 fn plain_call(store: &mut Store, call: &Call) -> u8 {
     let Store { array, map, hold, state } = store;
     match call {
-        Call::Format(g) => plain::format(array, map, hold, state, g.blocks, g.pages, g.logical),
-        Call::Recover(g) => plain::recover(array, map, hold, state, g.blocks, g.pages, g.logical),
+        Call::Format(g) => plain::format(array, map, hold, state, g.blocks, g.pages, g.logical, g.planes),
+        Call::Recover(g) => plain::recover(array, map, hold, state, g.blocks, g.pages, g.logical, g.planes),
         Call::Begin(id) => plain::begin(array, map, hold, state, *id),
         Call::Write { id, lpn, data } => plain::write(array, map, hold, state, *id, *lpn, data),
         Call::Drop { id, lpn } => plain::drop_page(array, map, hold, state, *id, *lpn),

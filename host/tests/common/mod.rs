@@ -1,13 +1,16 @@
-//! What the tests share: the two layers, random numbers, arrays made up, and cuts.
+//! What the tests share: the two layers, random numbers, arrays made up, pages that run, and cuts.
 #![allow(dead_code)]
 mod array;
 mod layer;
+mod running;
 
 #[allow(unused_imports)]
 pub use array::{checkpointed, put, scan_order, spare, whole_page, zone_data};
 use bokuhira::{Call, Geometry, State, Store, DATA, PAGE};
 #[allow(unused_imports)]
 pub use layer::{kind, Layer, LAYERS};
+#[allow(unused_imports)]
+pub use running::{Done, Running};
 use std::io::Write;
 
 /// Says a line even where the test passes: the harness keeps back what `println!` writes.
@@ -151,10 +154,11 @@ pub fn due_bits(before: &[u8], after: &[u8]) -> Vec<(usize, u8)> {
 pub fn lost_state(rng: &mut Rng) -> Vec<u8> {
     let mut state = rng.bytes(bokuhira::STATE);
     if rng.once_in(2) {
-        state[275] = rng.below(4) as u8;
-        if state[275] % 3 == 0 {
-            state[276..278].fill(0);
+        state[277] = rng.below(4) as u8;
+        if state[277] % 3 == 0 {
+            state[278..280].fill(0);
         }
+        state[280] %= 3;
         drop_bytes(&mut state).for_each(|d| *d &= 1);
     }
     state
@@ -162,7 +166,7 @@ pub fn lost_state(rng: &mut Rng) -> Vec<u8> {
 
 /// The bytes of a state that say of each page of each place whether it is a drop.
 pub fn drop_bytes(state: &mut [u8]) -> impl Iterator<Item = &mut u8> {
-    state[278..].chunks_mut(325).flat_map(|place| &mut place[261..])
+    state[281..].chunks_mut(325).flat_map(|place| &mut place[261..])
 }
 
 /// A store formatted by the proved library.

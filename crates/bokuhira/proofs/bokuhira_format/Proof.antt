@@ -14,7 +14,7 @@ same-length c = search needs
 returns : tie.Need-returns
 returns c =
     let g = c .before .before .before .before .before .before .before .args in
-    unstarted format (record { blocks = g .blocks; pages = g .pages; logical = g .logical }) (g .array .now) (g .map .now) (g .hold .now) (g .state .now) (c .before .sized .result) (c .before .sized .ensures) (c .if1 .taken)
+    unstarted format (record { blocks = g .blocks; pages = g .pages; logical = g .logical; planes = g .planes }) (g .array .now) (g .map .now) (g .hold .now) (g .state .now) (c .before .sized .result) (c .before .sized .ensures) (c .if1 .taken)
 
 starting-requires : tie.Need-starting-requires
 starting-requires c κs = long _ (c .before .before .sized .result) (c .before .before .sized .ensures) (c .before .if1 .left)
@@ -37,7 +37,7 @@ same-length-4 c = search needs
 returns-2 : tie.Need-returns-2
 returns-2 c =
     let g = c .before .before .before .before .before .before .before .before .before .before .before .before .before .before .before .before .before .before .before .before .args in
-    start-met format (record { blocks = g .blocks; pages = g .pages; logical = g .logical }) (g .array .now) (g .map .now) (g .hold .now) (g .state .now) _ _ _ _ _ _ _ _ (long _ (c .before .before .before .before .before .before .before .before .before .before .before .before .before .before .sized .result) (c .before .before .before .before .before .before .before .before .before .before .before .before .before .before .sized .ensures) (c .before .before .before .before .before .before .before .before .before .before .before .before .before .if1 .left)) (c .before .before .before .before .before .before .before .before .before .before .before .starting .ensures) (c .before .before .before .before .before .before .before .before .format .ensures) (c .before .before .finish .ensures)
+    start-met format (record { blocks = g .blocks; pages = g .pages; logical = g .logical; planes = g .planes }) (g .array .now) (g .map .now) (g .hold .now) (g .state .now) _ _ _ _ _ _ _ _ (long _ (c .before .before .before .before .before .before .before .before .before .before .before .before .before .before .sized .result) (c .before .before .before .before .before .before .before .before .before .before .before .before .before .before .sized .ensures) (c .before .before .before .before .before .before .before .before .before .before .before .before .before .if1 .left)) (c .before .before .before .before .before .before .before .before .before .before .before .starting .ensures) (c .before .before .before .before .before .before .before .before .format .ensures) (c .before .before .finish .ensures)
 
 pub bokuhira-format-spec : {M : Type 1} → statement M
 bokuhira-format-spec =

@@ -14,7 +14,7 @@ same-length c = search needs
 returns : tie.Need-returns
 returns c =
     let g = c .before .before .before .before .before .before .before .args in
-    unstarted recover (record { blocks = g .blocks; pages = g .pages; logical = g .logical }) (g .array .now) (g .map .now) (g .hold .now) (g .state .now) (c .before .sized .result) (c .before .sized .ensures) (c .if1 .taken)
+    unstarted recover (record { blocks = g .blocks; pages = g .pages; logical = g .logical; planes = g .planes }) (g .array .now) (g .map .now) (g .hold .now) (g .state .now) (c .before .sized .result) (c .before .sized .ensures) (c .if1 .taken)
 
 fresh-requires : tie.Need-fresh-requires
 fresh-requires c κs = search needs
@@ -34,7 +34,7 @@ same-length-3 c = search needs
 returns-2 : tie.Need-returns-2
 returns-2 c =
     let g = c .before .before .before .before .before .before .before .before .before .before .before .before .before .before .before .before .args in
-    recover-met (record { blocks = g .blocks; pages = g .pages; logical = g .logical }) (g .array .now) (g .map .now) (g .hold .now) (g .state .now) _ _ _ _ _ _ _ _ (long _ (c .before .before .before .before .before .before .before .before .before .before .sized .result) (c .before .before .before .before .before .before .before .before .before .before .sized .ensures) (c .before .before .before .before .before .before .before .before .before .if1 .left)) (c .before .before .before .before .before .before .before .before .fresh .ensures) (c .before .before .before .before .before .before .recover .ensures) (c .before .before .finish .ensures)
+    recover-met (record { blocks = g .blocks; pages = g .pages; logical = g .logical; planes = g .planes }) (g .array .now) (g .map .now) (g .hold .now) (g .state .now) _ _ _ _ _ _ _ _ (long _ (c .before .before .before .before .before .before .before .before .before .before .sized .result) (c .before .before .before .before .before .before .before .before .before .before .sized .ensures) (c .before .before .before .before .before .before .before .before .before .if1 .left)) (c .before .before .before .before .before .before .before .before .fresh .ensures) (c .before .before .before .before .before .before .recover .ensures) (c .before .before .finish .ensures)
 
 pub bokuhira-recover-spec : {M : Type 1} → statement M
 bokuhira-recover-spec =

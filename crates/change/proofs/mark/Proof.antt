@@ -4,7 +4,7 @@ use lib.ListN.{getD}
 use borrow.Author.Needs.{needs}
 use Rattle.model.specs.Frame.{noPlace}
 use Rattle.change.proofs.Framed.{frame-in, place-at, count-most, pages-in}
-use Rattle.change.proofs.Next.{next-fits, next-small}
+use Rattle.change.proofs.Next.{next-fits, next-small, next-erased, some-pages}
 use Rattle.change.proofs.Carrying.{mark-done}
 use Rattle.change.proofs.mark.Statement.{statement}
 use Rattle.change.proofs.mark.Tie as tie
@@ -20,8 +20,10 @@ cast-n c = search needs
 
 next-page-requires : tie.Need-next-page-requires
 next-page-requires c κs =
-    let a = c .before .before .before .before .before .before .before .args in
-    frame-in (a .s) (a .array .now) (a .map .now) (a .hold .now) (c .before .before .before .before .before .before .before .pre .0 .frame) .ready
+    let o = c .before .before .before .before .before .before .before .before in
+    let a = o .args in
+    let f = frame-in (a .s) (a .array .now) (a .map .now) (a .hold .now) (o .pre .0 .frame) in
+    f .ready
 
 add-v : tie.Need-add-v
 add-v c = search needs
@@ -31,73 +33,79 @@ cast-write-held c = search needs
 
 write-held-requires : tie.Need-write-held-requires
 write-held-requires c κs =
-    let a = c .before .before .before .before .before .before .before .before .before .before .before .args in
-    let f = frame-in (a .s) (a .array .now) (a .map .now) (a .hold .now) (c .before .before .before .before .before .before .before .before .before .before .before .pre .0 .frame) in
-    let h = next-fits (a .s .geometry) (a .array .now) (a .s .zones) (f .ready) in
-    (rw (c .before .before .before .next-page .ensures) h, (f .hold, (c .before .before .before .before .before .before .before .before .before .before .before .pre .1 .0, count-most (a .s .geometry) _ (place-at (a .s .geometry) (a .s .places) (a .i) (f .places)))))
+    let o = c .before .before .before .before .before .before .before .before .before .before .before .before in
+    let a = o .args in
+    let f = frame-in (a .s) (a .array .now) (a .map .now) (a .hold .now) (o .pre .0 .frame) in
+    let h = next-fits (a .s) (a .array .now) (f .ready) in
+    let m = count-most (a .s .geometry) _ (place-at (a .s .geometry) (a .s .places) (a .i) (f .places)) in
+    (rw (c .before .before .before .next-page .ensures) h, (f .hold, (o .pre .1 .0, m)))
 
 cast-ppns : tie.Need-cast-ppns
 cast-ppns c =
-    let a = c .before .before .before .before .before .before .before .before .before .before .before .before .before .before .before .before .args in
-    let f = frame-in (a .s) (a .array .now) (a .map .now) (a .hold .now) (c .before .before .before .before .before .before .before .before .before .before .before .before .before .before .before .before .pre .0 .frame) in
-    let h = next-small (a .s .geometry) (a .array .now) (a .s .zones) (f .ready) in
+    let h = c .before .before .before .before .before .before .before .before .before .before in
+    let o = h .before .before .before .before .before .before .before in
+    let a = o .args in
+    let f = frame-in (a .s) (a .array .now) (a .map .now) (a .hold .now) (o .pre .0 .frame) in
+    let h = next-small (a .s) (a .array .now) (f .ready) in
     let e = c .before .before .before .before .before .before .before .before .next-page .ensures in
     omega arith
 
 sub-ppns : tie.Need-sub-ppns
-sub-ppns c = c .before .before .before .before .before .before .before .before .before .before .before .before .before .before .before .before .pre .1 .1
+sub-ppns c =
+    let h = c .before .before .before .before .before .before .before .before .before .before in
+    h .before .before .before .before .before .before .before .pre .1 .1
 
 mul-ppns : tie.Need-mul-ppns
 mul-ppns c = search needs
 
 array-write-ppns : tie.Need-array-write-ppns
 array-write-ppns c =
-    let a = c .before .before .before .before .before .before .before .before .before .before .before .before .before .before .before .before .args in
-    let f = frame-in (a .s) (a .array .now) (a .map .now) (a .hold .now) (c .before .before .before .before .before .before .before .before .before .before .before .before .before .before .before .before .pre .0 .frame) in
+    let h = c .before .before .before .before .before .before .before .before .before .before in
+    let o = h .before .before .before .before .before .before .before in
+    let a = o .args in
+    let f = frame-in (a .s) (a .array .now) (a .map .now) (a .hold .now) (o .pre .0 .frame) in
     let m = count-most (a .s .geometry) _ (place-at (a .s .geometry) (a .s .places) (a .i) (f .places)) in
-    let h = c .before .before .before .before .before .before .before .before .before .before .before .before .before .before .before .before .pre .1 .1 in
+    let h = o .pre .1 .1 in
     omega arith
 
 enter-requires : tie.Need-enter-requires
 enter-requires c κs =
-    let q = c .before .before .before .before .before .before .before .before .before in
-    let o = q .before .before .before .before .before .before .before .before .before in
+    let h = c .before .before .before .before .before .before .before .before .before .before in
+    let o = h .before .before .before .before .before .before .before .before .before in
     let a = o .args in
     let f = frame-in (a .s) (a .array .now) (a .map .now) (a .hold .now) (o .pre .0 .frame) in
     let p = place-at (a .s .geometry) (a .s .places) (a .i) (f .places) in
     (count-most (a .s .geometry) _ p, rw (f .map) (pages-in (a .s .geometry) _ p))
 
-with-version-requires : tie.Need-with-version-requires
-with-version-requires c κs = search needs
-
-free-requires : tie.Need-free-requires
-free-requires c κs = search needs
-
-with-place-requires : tie.Need-with-place-requires
-with-place-requires c κs =
-    let q = c .before .before .before .before .before .before .before .before .before .before .before .before in
-    q .before .before .before .before .before .before .before .before .before .before .before .pre .1 .0
+with-marked-requires : tie.Need-with-marked-requires
+with-marked-requires c κs =
+    let h = c .before .before .before .before .before .before .before .before .before .before in
+    let o = h .before .before .before .before .before .before .before .before .before .before .before .before in
+    let a = o .args in
+    let f = frame-in (a .s) (a .array .now) (a .map .now) (a .hold .now) (o .pre .0 .frame) in
+    (o .pre .1 .0, some-pages (a .s) (a .array .now) (f .ready))
 
 same-length : tie.Need-same-length
-same-length c = c .before .before .before .before .before .before .before .before .before .before .before .array .given
+same-length c = c .before .before .before .before .before .before .before .before .before .array .given
 
 same-length-2 : tie.Need-same-length-2
 same-length-2 c = search needs
 
 returns : tie.Need-returns
 returns c =
-    let e = c .before .before .before .before .before in
+    let e = c .before .before .before in
     let h = e .before .before .before .before .before .before .before in
     let k = h .before .before .before .before in
-    let o = k .before .before .before .before .before .before .before .before in
+    let o = k .before .before .before .before .before .before .before .before .before in
     let a = o .args in
+    let f = frame-in (a .s) (a .array .now) (a .map .now) (a .hold .now) (o .pre .0 .frame) in
     mark-done (a .s) _ (a .array .now) (a .map .now) (a .hold .now) _ _ (a .i) _ (getD (a .s .places) (a .i) noPlace)
     (k .next-page .ensures)
-    (let n = o .pre .0 .clean in omega arith)
+    (next-erased (a .s) (a .array .now) (f .ready) (let n = o .pre .0 .clean in omega arith))
     (o .pre .1 .1)
     (h .write-held .ensures)
     (e .enter .ensures)
-    (rw (c .before .before .with-version .ensures, c .before .free .ensures) at (c .with-place .ensures))
+    (c .with-marked .ensures)
 
 pub mark-spec : {M : Type 1} → statement M
 mark-spec =
@@ -115,9 +123,7 @@ mark-spec =
     mul-ppns
     array-write-ppns
     enter-requires
-    with-version-requires
-    free-requires
-    with-place-requires
+    with-marked-requires
     same-length
     same-length-2
     returns)

@@ -11,6 +11,9 @@ cast-n c = search needs
 returns : tie.Need-returns
 returns c = record { none = λ e. refl; held = λ h. absurd (omega arith) }
 
+number-of-requires : tie.Need-number-of-requires
+number-of-requires c κs = search needs
+
 sub-data-spare : tie.Need-sub-data-spare
 sub-data-spare c = search needs
 
@@ -36,7 +39,10 @@ same-length : tie.Need-same-length
 same-length c = search needs
 
 returns-2 : tie.Need-returns-2
-returns-2 c = record { none = λ e. absurd (omega arith); held = λ h. rw (c .before .before .before .before .data-spare .ensures) at (c .before .before .program-held .ensures) }
+returns-2 c =
+    let d = c .before .before .before .before in
+    let e = rw (d .data-spare .ensures, d .before .number-of .ensures) at (c .before .before .program-held .ensures) in
+    record { none = λ z. absurd (omega arith); held = λ h. e }
 
 pub write-held-spec : {M : Type 1} → statement M
 write-held-spec =
@@ -44,6 +50,7 @@ write-held-spec =
     (tie.spec
     cast-n
     returns
+    number-of-requires
     sub-data-spare
     array-read-data-spare
     sub-data-spare-2

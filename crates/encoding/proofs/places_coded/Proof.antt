@@ -10,7 +10,7 @@ use Rattle.encoding.proofs.places_coded.Statement.{statement}
 use Rattle.encoding.proofs.places_coded.Tie as tie
 
 abbrev Inv-loop : tie.InvT-loop
-Inv-loop from coded₀ place₀ coded place = (place ≤ 8) × ((length from ≡ 2878) × (coded ≡ placesCoded from place))
+Inv-loop from coded₀ place₀ coded place = (place ≤ 8) × ((length from ≡ 2881) × (coded ≡ placesCoded from place))
 
 abbrev μ-loop : tie.MeasureT-loop
 μ-loop from coded₀ place₀ coded place = 8 - place

@@ -11,7 +11,7 @@ use Rattle.encoding.proofs.put_places.Tie as tie
 
 abbrev Inv-loop : tie.InvT-loop
 Inv-loop to₀ places i₀ to i =
-    (i ≤ 8) × ((length to₀ ≡ 2878) × ((length places ≡ 8) × ((length to ≡ 2878) × Laid to₀ 278 (325 * i) (each placeBytes (take i places)) to)))
+    (i ≤ 8) × ((length to₀ ≡ 2881) × ((length places ≡ 8) × ((length to ≡ 2881) × Laid to₀ 281 (325 * i) (each placeBytes (take i places)) to)))
 
 abbrev μ-loop : tie.MeasureT-loop
 μ-loop to₀ places i₀ to i = 8 - i

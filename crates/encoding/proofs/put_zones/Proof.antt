@@ -43,11 +43,11 @@ returns c =
     let a : length (g .t2 .available) ≡ 3 = search needs in
     let u : length (g .t2 .unavailable) ≡ 126 = search needs in
     let f : length (g .t2 .free) ≡ 126 = search needs in
-    let h : length (g .to .now) ≡ 2878 = c .before .before .before .before .before .before .before .before .before .before .before .before .before .before .before .before .before .before .before .before .before .before .pre in
-    let one = laid-one (laid-size 3 (c .before .before .before .before .before .before .before .before .before .before .before .before .before .before .before .before .put-bytes .ensures) a) 9 (g .t2 .na) refl (omega arith) in
-    let two = laid-one (laid-join one (laid-size 126 (c .before .before .before .before .before .before .before .before .before .put-bytes2 .ensures) u) refl) 136 (g .t2 .nu) refl (omega arith) in
-    let three = laid-one (laid-join two (laid-size 126 (c .before .before .put-bytes3 .ensures) f) refl) 263 (g .t2 .nf) refl (omega arith) in
-    laid-one three 264 (g .t2 .pointer) refl (omega arith)
+    let h : length (g .to .now) ≡ 2881 = c .before .before .before .before .before .before .before .before .before .before .before .before .before .before .before .before .before .before .before .before .before .before .pre in
+    let one = laid-one (laid-size 3 (c .before .before .before .before .before .before .before .before .before .before .before .before .before .before .before .before .put-bytes .ensures) a) 11 (g .t2 .na) refl (omega arith) in
+    let two = laid-one (laid-join one (laid-size 126 (c .before .before .before .before .before .before .before .before .before .put-bytes2 .ensures) u) refl) 138 (g .t2 .nu) refl (omega arith) in
+    let three = laid-one (laid-join two (laid-size 126 (c .before .before .put-bytes3 .ensures) f) refl) 265 (g .t2 .nf) refl (omega arith) in
+    laid-one three 266 (g .t2 .pointer) refl (omega arith)
 
 pub put-zones-spec : {M : Type 1} → statement M
 put-zones-spec =

@@ -3,19 +3,13 @@ use borrow.Author.Needs.{needs}
 use mathlib.Core.Path.{_≡_, refl}
 use native.Mathlib.Omega.{arith}
 use lib.ListN.{length, length-set}
-use Rattle.encoding.specs.Encoding.{kindOf, bytesOf}
+use Rattle.encoding.specs.Encoding.{kindOf, planeByte, bytesOf}
 use Rattle.encoding.proofs.Laid.{laid-one, laid-by, laid-join, laid-all}
 use Rattle.encoding.proofs.store.Statement.{statement}
 use Rattle.encoding.proofs.store.Tie as tie
 
-put-half-requires : tie.Need-put-half-requires
-put-half-requires c κs = search needs
-
-put-half-requires-2 : tie.Need-put-half-requires-2
-put-half-requires-2 c κs = search needs
-
-put-half-requires-3 : tie.Need-put-half-requires-3
-put-half-requires-3 c κs = search needs
+put-geometry-requires : tie.Need-put-geometry-requires
+put-geometry-requires c κs = search needs
 
 put-zones-requires : tie.Need-put-zones-requires
 put-zones-requires c κs = search needs
@@ -41,35 +35,40 @@ slice-write-to-3 c = simp length-set (omega arith)
 stride-of-requires : tie.Need-stride-of-requires
 stride-of-requires c κs = search needs
 
-put-half-requires-4 : tie.Need-put-half-requires-4
-put-half-requires-4 c κs = simp length-set (omega arith)
+put-half-requires : tie.Need-put-half-requires
+put-half-requires c κs = simp length-set (omega arith)
+
+plane-byte-requires : tie.Need-plane-byte-requires
+plane-byte-requires c κs = search needs
+
+slice-write-to-4 : tie.Need-slice-write-to-4
+slice-write-to-4 c = omega (arith, simp length-set at (c .before .before .before .put-half .ensures .same))
 
 put-places-requires : tie.Need-put-places-requires
-put-places-requires c κs = omega (arith, simp length-set at (c .before .before .before .before .put-half4 .ensures .same))
+put-places-requires c κs = simp length-set (omega (arith, simp length-set at (c .before .before .before .before .before .put-half .ensures .same)))
 
 same-length : tie.Need-same-length
-same-length c = omega (arith, c .before .before .put-places .ensures .same, simp length-set at (c .before .before .before .before .before .before .before .put-half4 .ensures .same))
+same-length c = omega (arith, simp length-set at (c .before .before .put-places .ensures .same), simp length-set at (c .before .before .before .before .before .before .before .before .put-half .ensures .same))
 
 returns : tie.Need-returns
 unfolding bytesOf
 returns c =
-    let g = c .before .before .before .before .before .before .before .before .before .before .before .before .before .before .before .before .before .before .before .before .before .before .before .before .before .before .before .before .before .before .before .before .before .before .before .before .before .args in
+    let g = c .before .before .before .before .before .before .before .before .before .before .before .before .before .before .before .before .before .before .before .before .before .before .before .before .before .before .before .before .before .before .before .args in
     let s = g .s in
-    let h : length (g .to .now) ≡ 2878 = c .before .before .before .before .before .before .before .before .before .before .before .before .before .before .before .before .before .before .before .before .before .before .before .before .before .before .before .before .before .before .before .before .before .before .before .before .before .pre in
-    let one = laid-join (laid-join (c .before .before .before .before .before .before .before .before .before .before .before .before .before .before .before .before .before .before .before .before .before .before .before .before .before .before .before .before .before .before .before .before .before .before .put-half .ensures) (c .before .before .before .before .before .before .before .before .before .before .before .before .before .before .before .before .before .before .before .before .before .before .before .before .before .before .before .before .before .before .put-half2 .ensures) refl) (c .before .before .before .before .before .before .before .before .before .before .before .before .before .before .before .before .before .before .before .before .before .before .before .before .before .before .put-half3 .ensures) refl in
-    let two = laid-join (laid-join (laid-join one (c .before .before .before .before .before .before .before .before .before .before .before .before .before .before .before .before .before .before .before .before .before .put-zones .ensures) refl) (c .before .before .before .before .before .before .before .before .before .before .before .before .before .before .before .before .before .put-word .ensures) refl) (c .before .before .before .before .before .before .before .before .before .before .before .before .before .put-word2 .ensures) refl in
-    let three = laid-one (laid-one two 273 (s .front) refl (omega arith)) 274 (s .first) refl (omega arith) in
-    let four = laid-by three 275 (kindOf (s .work)) refl (omega arith) (c .before .before .before .before .before .before .before .before .before .before .kind-of .ensures) in
-    let five = laid-join four (rw (c .before .before .before .before .before .before .before .before .stride-of .ensures) at (c .before .before .before .before .before .before .before .put-half4 .ensures)) refl in
-    laid-all (laid-join five (c .before .before .put-places .ensures) refl) h
+    let h : length (g .to .now) ≡ 2881 = c .before .before .before .before .before .before .before .before .before .before .before .before .before .before .before .before .before .before .before .before .before .before .before .before .before .before .before .before .before .before .before .pre in
+    let one = laid-join (c .before .before .before .before .before .before .before .before .before .before .before .before .before .before .before .before .before .before .before .before .before .before .before .before .before .before .before .put-geometry .ensures) (c .before .before .before .before .before .before .before .before .before .before .before .before .before .before .before .before .before .before .before .before .before .before .put-zones .ensures) refl in
+    let two = laid-join (laid-join one (c .before .before .before .before .before .before .before .before .before .before .before .before .before .before .before .before .before .before .put-word .ensures) refl) (c .before .before .before .before .before .before .before .before .before .before .before .before .before .before .put-word2 .ensures) refl in
+    let three = laid-one (laid-one two 275 (s .front) refl (omega arith)) 276 (s .first) refl (omega arith) in
+    let four = laid-by three 277 (kindOf (s .work)) refl (omega arith) (c .before .before .before .before .before .before .before .before .before .before .before .kind-of .ensures) in
+    let five = laid-join four (rw (c .before .before .before .before .before .before .before .before .before .stride-of .ensures) at (c .before .before .before .before .before .before .before .before .put-half .ensures)) refl in
+    let six = laid-by five 280 (planeByte (s .last)) refl (omega arith) (c .before .before .before .before .before .plane-byte .ensures) in
+    laid-all (laid-join six (c .before .before .put-places .ensures) refl) h
 
 pub store-spec : {M : Type 1} → statement M
 store-spec =
     tie.close
     (tie.spec
-    put-half-requires
-    put-half-requires-2
-    put-half-requires-3
+    put-geometry-requires
     put-zones-requires
     put-word-requires
     put-word-requires-2
@@ -78,7 +77,9 @@ store-spec =
     kind-of-requires
     slice-write-to-3
     stride-of-requires
-    put-half-requires-4
+    put-half-requires
+    plane-byte-requires
+    slice-write-to-4
     put-places-requires
     same-length
     returns)

@@ -1,5 +1,5 @@
 -- `load::all_unmapped` meets its contract. The loop's invariant: the lowest entry stands for those before the `i`-th. Assumes nothing.
-use mathlib.Core.Path.{_≡_, refl, sym}
+use mathlib.Core.Path.{_≡_, refl}
 use mathlib.Core.Bool.{_&&_}
 use Prim.Native.Nat.{_-_, _≤_}
 use native.Mathlib.Omega.{arith}

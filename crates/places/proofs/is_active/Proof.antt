@@ -2,7 +2,6 @@
 use mathlib.Core.Path.{_≡_}
 use lib.ListN.{length}
 use borrow.Author.Tests.{eq-eqb, ne-eqb}
-use Rattle.model.specs.Lists.{any}
 use Rattle.model.specs.Zones.{active}
 use Rattle.places.proofs.Ids.{find-any}
 use borrow.Author.Needs.{needs}

@@ -3,16 +3,31 @@ use mathlib.Core.Path.{_≡_, sym, ap, _∙_}
 use Prim.Native.Nat.{_+_}
 use native.Mathlib.Omega.{arith}
 use mathlib.Core.List.{_++_}
-use lib.ListN.{length, take, length-append, length-map}
+use lib.ListN.{length, take, length-append}
 use lib.Seq.{length-take-le}
 use borrow.Author.Tests.{le-leb, lt-leb}
 use Rattle.model.specs.Zones.{availableOf, unavailableOf, freeOf, listedIn, zoneListsOk, zonesOk}
 use Rattle.arrays.specs.Ranges.{geometry-in}
 use Rattle.blocks.proofs.Kept.{kept-list, kept-count}
 use Rattle.ranges.proofs.Listed.{laidOk, laid-lists}
+use Rattle.ranges.proofs.zones_ok.Reads as reads
+use Rattle.ranges.proofs.zones_ok.Lts as lts
+use Rattle.blocks.proofs.listed.Reads as listed-reads
+use Rattle.ranges.proofs.lists_ok.Reads as lists-ok-reads
 use borrow.Author.Needs.{needs}
 use Rattle.ranges.proofs.zones_ok.Statement.{statement}
 use Rattle.ranges.proofs.zones_ok.Tie as tie
+
+-- what the type of the zones says of their lists
+module _ (s : lts.Start (listed-reads.Asked, listed-reads.Learnt, lists-ok-reads.Asked, lists-ok-reads.Learnt) reads.Pre reads.Post) where
+  available-long : length (s .args .z .available) ≡ 3
+  available-long = search needs
+
+  unavailable-long : length (s .args .z .unavailable) ≡ 126
+  unavailable-long = search needs
+
+  free-long : length (s .args .z .free) ≡ 126
+  free-long = search needs
 
 cast-na : tie.Need-cast-na
 cast-na c = search needs
@@ -107,12 +122,13 @@ lists-ok-requires c κs =
 returns-3 : tie.Need-returns-3
 unfolding zonesOk
 returns-3 c =
-    let z = c .before .before .before .before .before .before .before .before .before .before .args .z in
-    let g = c .before .before .before .before .before .before .before .before .before .before .args .g in
-    let h = geometry-in g (c .before .before .before .before .before .before .before .before .before .before .pre) in
-    let la : length (z .available) ≡ 3 = search needs in
-    let lu : length (z .unavailable) ≡ 126 = search needs in
-    let lf : length (z .free) ≡ 126 = simp length-map at (c .before .before .before .before .before .before .before .before .before .before .good .1 .0 .1 .1 .1 .1 .1 .1 .0 .1 .0 .1) in
+    let s = c .before .before .before .before .before .before .before .before .before .before in
+    let z = s .args .z in
+    let g = s .args .g in
+    let h = geometry-in g (s .pre) in
+    let la = available-long s in
+    let lu = unavailable-long s in
+    let lf = free-long s in
     let ka = length-take-le (z .na) (z .available) (omega arith) in
     let ku = length-take-le (z .nu) (z .unavailable) (omega arith) in
     let kf = length-take-le (z .nf) (z .free) (omega arith) in

@@ -1,5 +1,4 @@
 -- `reading::read` meets its contract: a test after the other. Assumes nothing.
-use native.Mathlib.Omega.{arith}
 use Rattle.model.specs.World.{World}
 use Rattle.reading.proofs.Reading.{frame-failed, frame-passed, in-map, answers, read-bad, read-past, read-never, read-done}
 use borrow.Author.Needs.{needs}

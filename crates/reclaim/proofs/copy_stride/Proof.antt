@@ -1,29 +1,14 @@
 -- `reclaim::copy_stride` meets its contract: from what its calls ensure. Assumes nothing.
-use mathlib.Core.Path.{_≡_, refl, sym}
+use mathlib.Core.Path.{refl, sym}
 use native.Mathlib.Omega.{arith}
-use lib.ListN.{length}
-use lib.Seq.{length-take-le}
-use Rattle.zones.proofs.Listed.{ready-listed, available-within}
+use Rattle.change.proofs.Next.{next-fits, next-small, next-erased, some-pages}
 use Rattle.strides.proofs.Within.{fit-ready}
 use Rattle.reclaim.proofs.Room.{copy-places}
 use Rattle.reclaim.proofs.Carried.{data-copied, copy-strode}
-use Rattle.reclaim.proofs.copy_stride.Reads as reads
-use Rattle.reclaim.proofs.copy_stride.Lts as lts
-use Rattle.reclaim.proofs.find_page.Reads as find-page-reads
-use Rattle.flash.proofs.next_in.Reads as next-in-reads
-use Rattle.bytes.proofs.copy.Reads as copy-reads
-use Rattle.flash.proofs.program_at.Reads as program-at-reads
-use Rattle.places.proofs.with_version.Reads as with-version-reads
-use Rattle.places.proofs.with_work.Reads as with-work-reads
 use borrow.Author.Needs.{needs}
 use Rattle.reclaim.proofs.copy_stride.Statement.{statement}
 use Rattle.reclaim.proofs.copy_stride.Tie as tie
 
--- what the type of the state says of its available list
-available-long : (s : lts.Start (find-page-reads.Asked, find-page-reads.Learnt, next-in-reads.Asked, next-in-reads.Learnt, copy-reads.Asked, copy-reads.Learnt, program-at-reads.Asked, program-at-reads.Learnt, with-version-reads.Asked, with-version-reads.Learnt, with-work-reads.Asked, with-work-reads.Learnt) reads.Pre reads.Post) → length (s .args .s .zones .available) ≡ 3
-available-long s = search needs
-
--- what the type of the state says of its available list
 cast-find-page : tie.Need-cast-find-page
 cast-find-page c =
     let s = c .before .before .before in
@@ -33,38 +18,18 @@ cast-find-page c =
 find-page-requires : tie.Need-find-page-requires
 find-page-requires c κs = search needs
 
-cast-na : tie.Need-cast-na
-cast-na c = search needs
-
-cast-next-in : tie.Need-cast-next-in
-cast-next-in c = search needs
-
-array-share-prefix-a : tie.Need-array-share-prefix-a
-array-share-prefix-a c =
-    let s = c .before .before .before .before .before .before .before .before .before in
-    let l = available-long s in
-    let k = ready-listed _ _ _ (fit-ready _ _ _ (s .pre .fit)) .few in
-    omega arith
-
-slice-aggregate-next-in : tie.Need-slice-aggregate-next-in
-slice-aggregate-next-in c =
-    let s = c .before .before .before .before .before .before .before .before .before .before in
-    let l = available-long s in
-    let k = ready-listed _ _ _ (fit-ready _ _ _ (s .pre .fit)) .few in
-    sym (length-take-le (s .args .s .zones .na) (s .args .s .zones .available) (omega arith))
-
-next-in-requires : tie.Need-next-in-requires
-next-in-requires c κs = available-within _ _ _ (fit-ready _ _ _ (c .before .before .before .before .before .before .before .before .before .before .pre .fit))
+next-page-requires : tie.Need-next-page-requires
+next-page-requires c κs = fit-ready _ _ _ (c .before .before .before .before .before .pre .fit)
 
 mul-from : tie.Need-mul-from
 mul-from c =
-    let s = c .before .before .before .before .before .before .before .before .before .before .before in
+    let s = c .before .before .before .before .before .before in
     let p = copy-places (s .args .s) (s .args .array .now) (s .args .map .now) (s .args .j) (s .pre) in
     omega arith
 
 add-to : tie.Need-add-to
 add-to c =
-    let s = c .before .before .before .before .before .before .before .before .before .before .before in
+    let s = c .before .before .before .before .before .before in
     let p = copy-places (s .args .s) (s .args .array .now) (s .args .map .now) (s .args .j) (s .pre) in
     omega arith
 
@@ -76,7 +41,7 @@ part-copy-start c = search needs
 
 part-copy-end : tie.Need-part-copy-end
 part-copy-end c =
-    let s = c .before .before .before .before .before .before .before .before .before .before .before .before in
+    let s = c .before .before .before .before .before .before .before in
     let p = copy-places (s .args .s) (s .args .array .now) (s .args .map .now) (s .args .j) (s .pre) in
     omega arith
 
@@ -89,48 +54,34 @@ copy-requires c κs = search needs
 add-v : tie.Need-add-v
 add-v c = search needs
 
-cast-map : tie.Need-cast-map
-cast-map c =
-    let s = c .before .before .before .before .before .before .before .before .before .before .before .before .before .before .before .before .before in
+cast-put-lone : tie.Need-cast-put-lone
+cast-put-lone c =
+    let s = c .before .before .before .before .before .before .before .before .before .before .before .before .before .before in
     let p = copy-places (s .args .s) (s .args .array .now) (s .args .map .now) (s .args .j) (s .pre) in
-    let e = c .before .before .before .before .before .before .before .before .before .before .before .before .before .find-page .ensures in
+    let e = c .before .before .before .before .before .before .before .before .before .before .find-page .ensures in
     omega arith
 
-slice-aggregate-program-at : tie.Need-slice-aggregate-program-at
-slice-aggregate-program-at c = search needs
+slice-aggregate-put-lone : tie.Need-slice-aggregate-put-lone
+slice-aggregate-put-lone c = search needs
 
-program-at-requires : tie.Need-program-at-requires
-program-at-requires c κs =
-    let s = c .before .before .before .before .before .before .before .before .before .before .before .before .before .before .before .before .before .before .before in
+put-lone-requires : tie.Need-put-lone-requires
+put-lone-requires c κs =
+    let s = c .before .before .before .before .before .before .before .before .before .before .before .before .before .before .before in
     let p = copy-places (s .args .s) (s .args .array .now) (s .args .map .now) (s .args .j) (s .pre) in
-    (rw (c .before .before .before .before .before .before .before .before .next-in .ensures) (p .to), sym (slice-aggregate-program-at c))
+    let r = fit-ready _ _ _ (s .pre .fit) in
+    let e = c .before .before .before .before .before .before .before .before .before .next-page .ensures in
+    record {
+      inside = rw e (next-fits (s .args .s) (s .args .array .now) r);
+      number = rw e (next-small (s .args .s) (s .args .array .now) r);
+      page = rw (c .before .before .before .before .before .before .before .before .before .before .before .find-page .ensures) (p .entry);
+      bytes = sym (slice-aggregate-put-lone c);
+    }
 
-cast-map-2 : tie.Need-cast-map-2
-cast-map-2 c =
-    let s = c .before .before .before .before .before .before .before .before .before .before .before .before .before .before .before .before .before .before .before .before .before .before in
-    let p = copy-places (s .args .s) (s .args .array .now) (s .args .map .now) (s .args .j) (s .pre) in
-    let n = c .before .before .before .before .before .before .before .before .before .before .before .next-in .ensures in
-    omega arith
-
-mul-map : tie.Need-mul-map
-mul-map c =
-    let s = c .before .before .before .before .before .before .before .before .before .before .before .before .before .before .before .before .before .before .before .before .before .before in
-    let p = copy-places (s .args .s) (s .args .array .now) (s .args .map .now) (s .args .j) (s .pre) in
-    let e = c .before .before .before .before .before .before .before .before .before .before .before .before .before .before .before .before .before .before .find-page .ensures in
-    omega arith
-
-slice-write-map : tie.Need-slice-write-map
-slice-write-map c =
-    let s = c .before .before .before .before .before .before .before .before .before .before .before .before .before .before .before .before .before .before .before .before .before .before in
-    let p = copy-places (s .args .s) (s .args .array .now) (s .args .map .now) (s .args .j) (s .pre) in
-    let e = c .before .before .before .before .before .before .before .before .before .before .before .before .before .before .before .before .before .before .find-page .ensures in
-    omega arith
-
-with-version-requires : tie.Need-with-version-requires
-with-version-requires c κs = search needs
-
-with-work-requires : tie.Need-with-work-requires
-with-work-requires c κs = search needs
+with-copied-requires : tie.Need-with-copied-requires
+with-copied-requires c κs =
+    let h = c .before .before .before .before .before .before .before .before .before .before in
+    let s = h .before .before .before .before .before .before .before .before .before .before in
+    some-pages (s .args .s) (s .args .array .now) (fit-ready _ _ _ (s .pre .fit))
 
 same-length : tie.Need-same-length
 same-length c = search needs
@@ -140,9 +91,16 @@ same-length-2 c = search needs
 
 returns : tie.Need-returns
 returns c =
-    let s = c .before .before .before .before .before .before .before .before .before .before .before .before .before .before .before .before .before .before .before .before .before .before .before .before in
-    let p = copy-places (s .args .s) (s .args .array .now) (s .args .map .now) (s .args .j) (s .pre) in
-    copy-strode (s .args .s) (s .args .array .now) (s .args .map .now) (s .args .j) _ (c .before .before .before .before .before .before .before .before .before .before .before .before .before .before .before .before .before .before .before .before .find-page .ensures) _ (c .before .before .before .before .before .before .before .before .before .before .before .before .before .next-in .ensures) (p .blank) _ (data-copied (s .args .array .now) (s .args .j) _ _ _ _ (p .«from») refl refl refl (c .before .before .before .before .before .before .before .before .before .copy .ensures .1)) _ (c .before .before .before .before .program-at .ensures) _ _ (c .before .with-version .ensures) (c .with-work .ensures)
+    let h = c .before .before .before .before .before .before .before .before .before .before .before in
+    let k = h .before .before .before .before in
+    let s = k .before .before .before .before .before .before in
+    let a = s .args in
+    let p = copy-places (a .s) (a .array .now) (a .map .now) (a .j) (s .pre) in
+    let r = fit-ready _ _ _ (s .pre .fit) in
+    let d = data-copied (a .array .now) (a .j) _ _ _ _ (p .«from») refl refl refl (h .copy .ensures .1) in
+    copy-strode (a .s) (a .array .now) (a .map .now) (a .j) _ (k .before .before .find-page .ensures) _ d _ (k .next-page .ensures)
+    (next-erased (a .s) (a .array .now) r (s .pre .clean))
+    _ _ (c .before .before .before .before .before .put-lone .ensures) _ (c .with-copied .ensures)
 
 pub copy-stride-spec : {M : Type 1} → statement M
 copy-stride-spec =
@@ -150,11 +108,7 @@ copy-stride-spec =
     (tie.spec
     cast-find-page
     find-page-requires
-    cast-na
-    cast-next-in
-    array-share-prefix-a
-    slice-aggregate-next-in
-    next-in-requires
+    next-page-requires
     mul-from
     add-to
     sub-copy
@@ -163,14 +117,10 @@ copy-stride-spec =
     slice-aggregate-copy
     copy-requires
     add-v
-    cast-map
-    slice-aggregate-program-at
-    program-at-requires
-    cast-map-2
-    mul-map
-    slice-write-map
-    with-version-requires
-    with-work-requires
+    cast-put-lone
+    slice-aggregate-put-lone
+    put-lone-requires
+    with-copied-requires
     same-length
     same-length-2
     returns)

@@ -20,7 +20,6 @@ use Rattle.reclaim.proofs.free_stride.Tie as tie
 free-long : (s : lts.Start (erase-block-reads.Asked, erase-block-reads.Learnt, with-work-reads.Asked, with-work-reads.Learnt, freed-reads.Asked, freed-reads.Learnt, with-zones-reads.Asked, with-zones-reads.Learnt) reads.Pre reads.Post) → length (s .args .s .zones .free) ≡ 126
 free-long s = search needs
 
--- what the type of the state says of its free list
 cast-erase-block : tie.Need-cast-erase-block
 cast-erase-block c = search needs
 

@@ -52,7 +52,7 @@ returns c =
     let h = c .before .before .before .before .before .before .before .before .before .before .before .before .before .before .before .before .before .before .before .before .before .before .before .before .before .before .pre .0 in
     let l = c .before .before .before .before .before .before .before .before .before .before .before .before .before .before .before .before .before .before .before .before .before .before .before .before .before .before .pre .1 in
     let r = c .before .before .before .before .before .pages-good in
-    scan-refused (a .g .logical) (scanIn (a .array .now) (a .g .pages) (a .bs .now)) (a .floor) (a .entries .now) (a .map .now) (r .result) (r .ensures .0) (not-true _ (c .if1 .taken))
+    scan-refused (a .g .planes) (a .g .logical) (scanIn (a .array .now) (a .g .pages) (a .bs .now)) (a .floor) (a .entries .now) (a .map .now) (r .result) (r .ensures .0) (not-true _ (c .if1 .taken))
 
 slice-aggregate-copy : tie.Need-slice-aggregate-copy
 slice-aggregate-copy c =
@@ -123,7 +123,7 @@ returns-2 c =
     let e = c .before .before .before .before .before .before .before .before .before .before .before .before .before .before .before .before .before .before .before .before .before .before .before .before .before .before .visit .ensures in
     let r = c .before .before .before .before .before .before .before .before .before .before .before .before .before .before .before .before .before .before .before .before .pages-good in
     let ok = not-false _ (c .before .before .before .before .before .before .before .before .before .before .before .before .before .before .before .if1 .left) in
-    scan-passed (a .g .logical) (scanIn (a .array .now) (a .g .pages) (a .bs .now)) (a .floor) (a .entries .now) (a .map .now) (r .result) (r .ensures .0) ok (s .top) (top-met (a .g) (a .array .now) (a .map .now) (a .bs .now) (a .entries .now) h (r .result) (r .ensures .0) ok _ (c .before .before .before .before .before .before .before .before .before .before .before .before .before .before .before .before .before .before .before .before .before .before .before .before .before .before .before .before .before .before .before .list .ensures) s (e .0))
+    scan-passed (a .g .planes) (a .g .logical) (scanIn (a .array .now) (a .g .pages) (a .bs .now)) (a .floor) (a .entries .now) (a .map .now) (r .result) (r .ensures .0) ok (s .top) (top-met (a .g) (a .array .now) (a .map .now) (a .bs .now) (a .entries .now) h (r .result) (r .ensures .0) ok _ (c .before .before .before .before .before .before .before .before .before .before .before .before .before .before .before .before .before .before .before .before .before .before .before .before .before .before .before .before .before .before .before .list .ensures) s (e .0))
     (h .mapped) _ (c .before .before .before .before .before .before .before .before .before .before .before .before .copy .ensures) _ (c .before .before .before .before .redo .ensures)
 
 pub scan-pages-spec : {M : Type 1} → statement M

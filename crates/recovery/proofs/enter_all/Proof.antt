@@ -16,7 +16,7 @@ enter-runs-requires : tie.Need-enter-runs-requires
 enter-runs-requires c κs =
     let a = c .before .before .before .before .before .before .before .before .before .args in
     let r = c .before .before .before .before .before .before .before .before .before .pre .0 in
-    ready-changes (a .map .now) (a .array .now) (a .pages) (a .bs .now) (a .changes .now) (a .notes .now) (a .other .now) r (λ i. c .before .before .before .before .before .before .shared-slice-known .given i .fits) (a .bests .now) (c .before .before .before .before .before .before .before .before .before .pre .1)
+    ready-changes (a .planes) (a .map .now) (a .array .now) (a .pages) (a .bs .now) (a .changes .now) (a .notes .now) (a .other .now) r (λ i. c .before .before .before .before .before .before .shared-slice-known .given i .fits) (a .bests .now) (c .before .before .before .before .before .before .before .before .before .pre .1)
 
 list-requires : tie.Need-list-requires
 list-requires c κs =
@@ -42,7 +42,7 @@ enter-lone-requires : tie.Need-enter-lone-requires
 enter-lone-requires c κs =
     let a = c .before .before .before .before .before .before .before .before .before .before .before .before .before .before .before .before .before .before .before .before .before .before .before .before .before .args in
     let r = c .before .before .before .before .before .before .before .before .before .before .before .before .before .before .before .before .before .before .before .before .before .before .before .before .before .pre .0 in
-    lone-enter (a .map .now) (a .array .now) (a .pages) (a .bs .now) (a .changes .now) (a .notes .now) (a .other .now) r _ (c .before .before .before .before .before .before .before .before .before .list .ensures) (c .before .before .before .before .before .pick .result) (c .before .before .before .before .before .pick .last .0) (c .before .before .before .before .before .pick .ensures .1) _ _ (omega (arith, c .before .before .before .before .before .before .before .before .before .before .before .before .before .before .map .given)) (omega (arith, c .before .before .before .before .before .before .before .before .before .before .before .before .before .before .map .given, c .before .before .before .before .before .before .before .before .before .before .before .before .bests .given, c .before .before .before .before .before .before .before .before .before .before .before .before .before .before .before .before .before .before .before .before .before .before .before .before .before .pre .1))
+    lone-enter (a .planes) (a .map .now) (a .array .now) (a .pages) (a .bs .now) (a .changes .now) (a .notes .now) (a .other .now) r _ (c .before .before .before .before .before .before .before .before .before .list .ensures) (c .before .before .before .before .before .pick .result) (c .before .before .before .before .before .pick .last .0) (c .before .before .before .before .before .pick .ensures .1) _ _ (omega (arith, c .before .before .before .before .before .before .before .before .before .before .before .before .before .before .map .given)) (omega (arith, c .before .before .before .before .before .before .before .before .before .before .before .before .before .before .map .given, c .before .before .before .before .before .before .before .before .before .before .before .before .bests .given, c .before .before .before .before .before .before .before .before .before .before .before .before .before .before .before .before .before .before .before .before .before .before .before .before .before .pre .1))
 
 same-length : tie.Need-same-length
 same-length c = search needs
@@ -57,7 +57,7 @@ returns : tie.Need-returns
 returns c =
     let a = c .before .before .before .before .before .before .before .before .before .before .before .before .before .before .before .before .before .before .before .before .before .before .before .before .before .before .before .before .before .before .args in
     let r = c .before .before .before .before .before .before .before .before .before .before .before .before .before .before .before .before .before .before .before .before .before .before .before .before .before .before .before .before .before .before .pre .0 in
-    c .before .before .before .before .enter-lone .ensures ∙ rw (c .before .before .before .before .before .before .before .before .before .before .before .before .before .before .before .before .before .before .before .before .enter-runs .ensures, ready-lone (a .map .now) (a .array .now) (a .pages) (a .bs .now) (a .changes .now) (a .notes .now) (a .other .now) r _ (c .before .before .before .before .before .before .before .before .before .before .before .before .before .before .list .ensures) (c .before .before .before .before .before .before .before .before .before .before .pick .result) (c .before .before .before .before .before .before .before .before .before .before .pick .last .0) (c .before .before .before .before .before .before .before .before .before .before .pick .ensures .1))
+    c .before .before .before .before .enter-lone .ensures ∙ rw (c .before .before .before .before .before .before .before .before .before .before .before .before .before .before .before .before .before .before .before .before .enter-runs .ensures, ready-lone (a .planes) (a .map .now) (a .array .now) (a .pages) (a .bs .now) (a .changes .now) (a .notes .now) (a .other .now) r _ (c .before .before .before .before .before .before .before .before .before .before .before .before .before .before .list .ensures) (c .before .before .before .before .before .before .before .before .before .before .pick .result) (c .before .before .before .before .before .before .before .before .before .before .pick .last .0) (c .before .before .before .before .before .before .before .before .before .before .pick .ensures .1))
 
 pub enter-all-spec : {M : Type 1} → statement M
 enter-all-spec =

@@ -11,7 +11,7 @@ use Rattle.recovery.proofs.redo.Tie as tie
 returns : tie.Need-returns
 returns c =
     let a = c .before .before .before .before .before .before .before .args in
-    sym (redo-none (a .floor) (scanIn (a .array .now) (a .pages) (a .bs .now)) (a .map .now) (omega (arith, c .before .before .before .before .before .before .before .pre .1, c .if1 .taken)))
+    sym (redo-none (a .planes) (a .floor) (scanIn (a .array .now) (a .pages) (a .bs .now)) (a .map .now) (omega (arith, c .before .before .before .before .before .before .before .pre .1, c .if1 .taken)))
 
 add-bests : tie.Need-add-bests
 add-bests c = search needs
@@ -34,7 +34,7 @@ same-length-2 c = search needs
 returns-2 : tie.Need-returns-2
 returns-2 c =
     let a = c .before .before .before .before .before .before .before .before .before .before .before .before .before .before .before .before .args in
-    redo-all (a .floor) 1024 (a .map .now) (a .array .now) (a .pages) (a .bs .now) (a .changes .now) (a .notes .now) (a .other .now) (λ i. c .before .before .before .before .before .before .before .before .before .before .before .before .before .before .shared-slice-known .given i .fits) (c .before .before .before .before .before .before .before .before .before .before .before .before .before .before .before .before .pre .0) (c .before .before .before .before .before .before .before .before .before .before .before .before .before .before .before .before .pre .0 .few) _ _ (c .before .before .before .before .before .enter-all .ensures)
+    redo-all (a .planes) (a .floor) 1024 (a .map .now) (a .array .now) (a .pages) (a .bs .now) (a .changes .now) (a .notes .now) (a .other .now) (λ i. c .before .before .before .before .before .before .before .before .before .before .before .before .before .before .shared-slice-known .given i .fits) (c .before .before .before .before .before .before .before .before .before .before .before .before .before .before .before .before .pre .0) (c .before .before .before .before .before .before .before .before .before .before .before .before .before .before .before .before .pre .0 .few) _ _ (c .before .before .before .before .before .enter-all .ensures)
 
 pub redo-spec : {M : Type 1} → statement M
 redo-spec =

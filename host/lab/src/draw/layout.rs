@@ -1,11 +1,11 @@
 //! The measures of a picture: how large its cells are, what they tell at which scale, and how long words are made to fit.
-use crate::look::Words;
+use crate::{look::Words, words::plane_word};
 use bokuhira::Geometry;
 
 /// What the head of a column tells.
 #[derive(Clone, Copy, PartialEq, Eq)]
 pub enum Head {
-    /// The word block, its number, and its zone.
+    /// The word block, its number, its plane where there are two, and its zone.
     Block,
     Words,
     /// The number, and two letters for the zone.
@@ -76,6 +76,11 @@ impl Layout {
 
     pub fn pages(&self) -> usize {
         self.geometry.pages as usize
+    }
+
+    /// The plane of a block, where there are two.
+    pub fn plane(&self, b: usize) -> Option<&'static str> {
+        plane_word(self.geometry, b)
     }
 
     /// Whether heads have no room for the words of their zones.
@@ -202,7 +207,7 @@ mod tests {
     }
 
     fn layout(blocks: u16, pages: u16, logical: u16) -> (Layout, [Form; 3]) {
-        let layout = Layout::of(Geometry { blocks, pages, logical });
+        let layout = Layout::of(Geometry::new(blocks, pages, logical));
         let forms = layout.forms();
         (layout, forms)
     }
