@@ -12,7 +12,7 @@ use Rattle.model.specs.Bytes.{bytes, ands, minus}
 use Rattle.model.specs.Answers.{refused}
 use Rattle.model.specs.Zones.{Entry}
 use Rattle.model.specs.Checkpoint.{mapPage, zoneData}
-use Rattle.model.specs.World.{World, none, program, refuse, dueBits, turnedBits, turn, cutOp, isNone}
+use Rattle.model.specs.World.{World, none, program, dueBits, turnedBits, turn, cutOp, isNone}
 use Rattle.model.specs.Transactions.{changeBytes}
 use Rattle.model.specs.Commands.{Call, Outcome, recover, begin, write, commit, checkpoint, plan, carried, exec}
 use Rattle.model.specs.Book.{Event, called, cutIn, never, holds, blank as noBook, story}
@@ -25,6 +25,7 @@ use Rattle.model.specs.declared.Work.the-variants.{Idle}
 use Rattle.examples.specs.Unfolded.{go, told}
 use Rattle.examples.specs.Rules.{planed}
 use Rattle.examples.specs.Orders.{checkpoint-13}
+use Rattle.examples.specs.Running.{refused-keeps}
 use Rattle.runs.specs.Paged.{flat, Sized, page-flat, put-flat, sized-splice, sized-take, takenOn, nextOn}
 use Rattle.runs.specs.Devices.{Device, world, passes, begins, first-op, first-write, write-op, next-write, commit-op, commit-shape, checkpoint-begins, recovers, answering, cut-beside, recovered, joined}
 use Rattle.runs.specs.Runs.{blank, block, pages, paged, sized-pages, zeros, ones, hold, lost, zones1, map0, map1, zone1, opened, free8, butOne}
@@ -44,11 +45,7 @@ module _ (x : Device) (rs : List Running) (two : eqb (x .state .geometry .planes
   unfolding during
   while-programs c w o = rw (o, w) refl
 
--- a begin, a write that is held alone, and a call that is refused leave what runs
-pub refused-keeps : (c : Call) (w : World) (rs : List Running) (n : ℕ) → plan c w ≡ refuse w n → refused n ≡ true → runsAfter c w rs ≡ rs
-unfolding runsAfter
-refused-keeps c w rs n e r = rw (e, r) refl
-
+-- a begin and a write that is held alone leave what runs
 pub begin-keeps : (w : World) (id : ℕ) (rs : List Running) → runsAfter (begin id) w rs ≡ rs
 unfolding runsAfter left
 begin-keeps w id rs = go (refused (plan (begin id) w .answer) && isNone (plan (begin id) w .op))
