@@ -1,6 +1,6 @@
 //! Replays traces of document 01 (docs/PAPERS.md), call by call, through the proved library and through the plain layer: answer, operation,
-//! array, map, hold and state, the pages that run, and the classes of pages. traces/README.md says what a line means; traces/counts pins how many steps each
-//! trace compares.
+//! array, map, hold and state, the pages that run, and the classes of pages. traces/README.md says what a line means; traces/counts pins how
+//! many steps each trace compares.
 mod common;
 
 use bokuhira::{Call, Class, Geometry, Kind, Place, Plane, State, Store, Work, Zones, PAGE, STATE};

@@ -137,7 +137,7 @@ fn enter_all(
 }
 
 /// Enters the committed transactions above the floor by rising version; the highest version of the scan is given, and its pages of changes
-/// sorted by TxID, those of one in turn. `other` is room for the scan's pages.
+/// sorted by TxID, those of one in turn. `other` is room for the scan's pages. `planes` says which turn that is, to the contract alone.
 pub fn redo(
     map: &mut [u16],
     array: &[u8],
