@@ -39,7 +39,7 @@ Agrees (off xs) (live w ts) = ⊥
 Agrees (off xs) (dark ys) = xs ≡ ys
 
 -- they agree after a call that does what the model's does
-does-says : (c : Call) (l : Lent) (w : World) → Does c l w → Says (after c l) (exec c w .world)
+pub does-says : (c : Call) (l : Lent) (w : World) → Does c l w → Says (after c l) (exec c w .world)
 does-says c l w d = record { is = ap lentIn (d .is); shaped = d .shaped }
 
 -- ---- a call where they agree
@@ -140,16 +140,16 @@ recovery-answers reclaim l r = absurd (false≢true r)
 
 -- ---- the steps
 -- the step of the same name, and the phase that it leads to
-record Stepped (g : Geometry) (p : Phase) (e : Event) (q : LentPhase) : Type 0 where
-  phase : Phase
-  step : Step g p e phase
-  agrees : Agrees q phase
+pub record Stepped (g : Geometry) (p : Phase) (e : Event) (q : LentPhase) : Type 0 where
+  pub phase : Phase
+  pub step : Step g p e phase
+  pub agrees : Agrees q phase
 
 -- an answer in an event
 told : {c : Call} {m n : ℕ} → m ≡ n → called c n ≡ called c m
 told {c} e = ap (called c) (sym e)
 
-step-is : (g : Geometry) (p : LentPhase) (e : Event) (q : LentPhase) → LentStep g p e q → (p′ : Phase) → Agrees p p′ → Stepped g p′ e q
+pub step-is : (g : Geometry) (p : LentPhase) (e : Event) (q : LentPhase) → LentStep g p e q → (p′ : Phase) → Agrees p p′ → Stepped g p′ e q
 step-is g p e q (LentStep.call c l rs f a) (live w ts) s =
     let d = said-does l w (s .0) c in
     let m = does-answer c l w d in

@@ -9,3 +9,4 @@ pub mod Joined
 pub mod Theorem
 pub mod EveryRun
 pub mod Claims
+pub mod EitherOrder

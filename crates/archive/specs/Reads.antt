@@ -73,7 +73,7 @@ read-inside w lpn e =
 
 -- ---- the fact
 module _ (w : World) (h : Shaped (w .state)) where
-  read-answers : (lpn at : ℕ) → readOn lpn (lentOf w) at .answer ≡ readAnswer lpn w
+  pub read-answers : (lpn at : ℕ) → readOn lpn (lentOf w) at .answer ≡ readAnswer lpn w
   unfolding readCalled foundOf exec plan carried
   read-answers lpn at = rw (coded-back (w .state) h, state-back (w .state) h)
 
@@ -81,7 +81,7 @@ module _ (w : World) (h : Shaped (w .state)) where
   unfolding readCalled foundOf
   read-at lpn at e = rw e
 
-  read-part : (lpn at : ℕ) → readOn lpn (lentOf w) at .answer ≡ 0 → part (readOn lpn (lentOf w) at .at) 512 (w .array) ≡ readPart lpn w
+  pub read-part : (lpn at : ℕ) → readOn lpn (lentOf w) at .answer ≡ 0 → part (readOn lpn (lentOf w) at .at) 512 (w .array) ≡ readPart lpn w
   read-part lpn at e = found-part lpn (w .array) (w .map) (w .hold) (bytesOf (w .state)) at e ∙ rw (state-back (w .state) h)
 
   pub reads-as : (lpn : ℕ) (x : Content) → ReadsAs w lpn x → LentReadsAs (lentOf w) lpn x

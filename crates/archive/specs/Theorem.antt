@@ -21,7 +21,7 @@ use Rattle.archive.specs.LentRuns.{LentPhase, on, off, lentArray}
 use Rattle.archive.specs.Statement.{LentReadsAs, LentRight, LentRecovers, LentLive, LentKept, Demand3Bytes, FormatReadsBytes}
 use Rattle.archive.specs.Coded.{lentOf, resultFor, call-does, startOf, Does, started-sized, recover-does}
 use Rattle.archive.specs.Reads.{reads-as}
-use Rattle.archive.specs.Joined.{Says, Agrees, run-is, formatting-is, formatted-is}
+use Rattle.archive.specs.Joined.{Says, Agrees, does-says, run-is, formatting-is, formatted-is}
 
 -- ---- what is right of a world is right of its bytes
 world-right : (w : World) → Shaped (w .state) → (g : Geometry) (b : Book) → Reads g b w → LentRight g b (lentOf w)
@@ -31,22 +31,26 @@ said-right : (l : Lent) (w : World) (g : Geometry) (b : Book) → Says l w → R
 said-right l w g b s r = subst (LentRight g b) (sym (s .is)) (world-right w (s .shaped) g b r)
 
 -- ---- a recovery with any 2,881 bytes
+module _ (g : Geometry) (l : Lent) (long : length (l .bytes) ≡ 2881) (done : exec (recover g) (startOf g l) .answer ≡ 0) where
+  pub recover-succeeds : bokuhira (recover g) l .answer ≡ 0
+  unfolding bokuhira sized resultOf
+  recover-succeeds = rw (started-sized recover g l (eq-eqb (length (l .bytes)) 2881 long)) done
+
+  pub recover-said : Does (recover g) l (startOf g l)
+  recover-said = recover-does g l (unfold refused in rw recover-succeeds)
+
 module _ (g : Geometry) (b : Book) (l : Lent) (long : length (l .bytes) ≡ 2881) (k : Recovers g b (startOf g l)) where
   -- the world that it leads to
   abbrev found : World
   found = exec (recover g) (startOf g l) .world
 
-  succeeds : bokuhira (recover g) l .answer ≡ 0
-  unfolding bokuhira sized resultOf
-  succeeds = rw (started-sized recover g l (eq-eqb (length (l .bytes)) 2881 long)) (k .succeeds)
-
   does : Does (recover g) l (startOf g l)
-  does = recover-does g l (unfold refused in rw succeeds)
+  does = recover-said g l long (k .succeeds)
 
   lent-recovers : LentRecovers g b l
   lent-recovers = record {
-    succeeds = succeeds;
-    right = said-right (after (recover g) l) found g b (record { is = ap lentIn (does .is); shaped = does .shaped }) (k .reads);
+    succeeds = recover-succeeds g l long (k .succeeds);
+    right = said-right (after (recover g) l) found g b (does-says (recover g) l (startOf g l) does) (k .reads);
     again = ap (λ (r : Result). bokuhira (recover g) (lentIn r)) (does .is) ∙ call-does found (does .shaped) (recover g) .is ∙ ap resultFor
         (k .again ∙ sym done) ∙ sym (does .is);
   }

@@ -3,4 +3,5 @@ pub mod Orders
 pub mod Rules
 pub mod Told
 pub mod Running
+pub mod EitherOrder
 pub mod Bench

@@ -2,3 +2,4 @@ pub mod Paged
 pub mod Devices
 pub mod Runs
 pub mod Planes
+pub mod EitherOrder

@@ -191,9 +191,13 @@ idle z v n ps = record { geometry = small; zones = z; version = v; checkpoint = 
 abbrev pub free8 : List Place
 free8 = replicate 8 freePlace
 
--- a change in place 0: its identifier, its logical pages, the pages that they lie on, and which of the first of them it drops
+-- a change: its identifier, its logical pages, the pages that they lie on, and which of the first of them it drops
+abbrev pub change : ℕ → List ℕ → List ℕ → List Bool → Place
+change id ls ps ds = record { id = id; count = length ls; lpns = padTo 64 ls; ppns = padTo 64 ps; drops = ds ++ replicate (64 - length ds) false }
+
+-- one in place 0
 abbrev pub dropping : ℕ → List ℕ → List ℕ → List Bool → List Place
-dropping id ls ps ds = record { id = id; count = length ls; lpns = padTo 64 ls; ppns = padTo 64 ps; drops = ds ++ replicate (64 - length ds) false } ∷ replicate 7 freePlace
+dropping id ls ps ds = change id ls ps ds ∷ replicate 7 freePlace
 
 -- one of writes alone
 abbrev pub opened : ℕ → List ℕ → List ℕ → List Place

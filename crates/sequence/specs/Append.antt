@@ -2,7 +2,7 @@
 use mathlib.Core.Path.{_≡_, refl, sym, ap, _∙_, subst}
 use mathlib.Core.Logic.{_≢_}
 use mathlib.Core.Bool.{true, false}
-use Prim.Native.Nat.{ℕ, _≤_, _<_}
+use Prim.Native.Nat.{ℕ, suc, _≤_, _<_}
 use native.Mathlib.Omega.{arith}
 use mathlib.Core.List.{List, [], _∷_, _++_}
 use lib.ListN.{length}
@@ -12,6 +12,7 @@ use Rattle.model.specs.Zones.{Entry, scanOf, entryOf}
 use Rattle.model.specs.Recovery.{ofId}
 use Rattle.model.specs.World.{World, Op, Plan, program, applyOp, dueBits, turnedBits, everyTurned, cutOp}
 use Rattle.model.specs.Transactions.{cleanPages, nextPage}
+use Rattle.model.specs.Commands.{carried}
 use Rattle.model.specs.Book.{Book, Content}
 use Rattle.model.specs.declared.Geometry.{Geometry}
 use Rattle.model.specs.declared.Spare.{Spare}
@@ -19,6 +20,7 @@ use Rattle.arrays.specs.Bytelist.{Bytes}
 use Rattle.arrays.specs.Ranges.{page-least, page-most, page-small}
 use Rattle.arrays.specs.Ops.{length-apply, length-cut, bytes-apply, bytes-cut, program-other, cut-program-other}
 use Rattle.arrays.specs.Image.{SpareFits, image-spare}
+use Rattle.arrays.specs.Whole.{whole-not-blank}
 use Rattle.arrays.specs.Arrays.{ProgramOk, image-ok, programmed-whole, programmed-data, programmed-spare}
 use Rattle.arrays.specs.Arrays.{program-keeps, cut-program-keeps, leans-apply, leans-cut}
 use Rattle.front.specs.Newest.{SameFront}
@@ -27,13 +29,14 @@ use Rattle.scanlog.specs.Occ.{occ}
 use Rattle.arrays.specs.Insert.{Insert}
 use Rattle.scanlog.specs.Log.{ofId-last}
 use Rattle.scanlog.specs.Logged.{Logged}
-use Rattle.scanlog.specs.Tidy.{Tidy, next-data, next-fits, next-erased, tidy-program, scan-program, scan-order-is-write-order, tidy-cut, scan-torn}
+use Rattle.scanlog.specs.Tidy.{Tidy, next-data, next-fits, next-erased, tidy-program, scan-program, scan-order-is-write-order, tidy-cut, scan-torn, clean-next}
 use Rattle.scanlog.specs.Free.{grown-scan, grown-tidy}
 use Rattle.sequence.specs.Maps.{MapGood}
 use Rattle.sequence.specs.Contents.{Contents, contents-keep, blank-unmapped}
 use Rattle.sequence.specs.Writes.{WholeSame}
 use Rattle.sequence.specs.Sound.{Sound}
 use Rattle.sequence.specs.Live.{Live, live-range, scanned}
+use Rattle.sequence.specs.View.{after}
 
 -- these bytes are programmed on the next page: what a cut leaves, and that it does not let every due bit turn
 abbrev pub cutNext : World → List ℕ → List ℕ → List ℕ
@@ -196,3 +199,13 @@ module _ (w : World) (b : Book) (h : Live w b) (clean : 0 < cleanPages w) (d : L
     torn = λ lets t. cut-sound lets t;
     still = λ lets t. scan-torn g xs (w .state .zones) (w .state .last) (h .tidy) clean (g .pages) (pageBytes d s) append-ok lets (h .sound .bytes) t;
   }
+
+-- ---- what it takes: one clean page
+pub append-clean : (w : World) (b : Book) (h : Live w b) (s : Spare) (p : Plan) → Appends w b h s p → cleanPages w ≡ suc (cleanPages (after p w))
+unfolding carried
+append-clean w b h s p a =
+    let n = w .state .geometry .pages in
+    rw (a .does, a .geometry, a .zones)
+    (clean-next (w .state .geometry) (w .array) (w .state .zones) (w .state .last) (h .tidy) (a .clean) (applyOp n (program (nextPage w) (a .new)) (w .array))
+    (program-other n (w .array) (nextPage w) (a .new) (a .ok .fits))
+    (whole-not-blank _ (nextPage w) (programmed-whole n (w .array) (nextPage w) (a .new) (a .ok))))

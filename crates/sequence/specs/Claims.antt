@@ -192,12 +192,12 @@ any-fits (read lpn) h = lt-ltb _ _ h
 any-fits checkpoint h = refl
 any-fits reclaim h = refl
 
-run-then : {g : Geometry} {p q r : Phase} {es : List Event} {e : Event} → Run g p es q → Step g q e r → Run g p (es ++ (e ∷ [])) r
-run-then (stop p) s = next s (stop _)
-run-then (next t u) s = next t (run-then u s)
+pub run-append : {g : Geometry} {p q r : Phase} {es fs : List Event} → Run g p es q → Run g q fs r → Run g p (es ++ fs) r
+run-append (stop p) s = s
+run-append (next t u) s = next t (run-append u s)
 
 leads-then : {g : Geometry} {es : List Event} {e : Event} {p q : Phase} → Leads g es p → Step g p e q → Leads g (es ++ (e ∷ [])) q
-leads-then l s = record { start = l .start; formatted = l .formatted; run = run-then (l .run) s }
+leads-then l s = record { start = l .start; formatted = l .formatted; run = run-append (l .run) (next s (stop _)) }
 
 -- in every world of a sequence each of these calls may follow, answered whatever it answers, and may be cut at any bits of what it does and of what runs, or
 -- before it does anything

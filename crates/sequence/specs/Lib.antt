@@ -29,5 +29,7 @@ pub mod Theorem
 pub mod ScanOrder
 pub mod UnderWay
 pub mod Claims
+pub mod OtherOrder
+pub mod EitherOrder
 pub mod Former
 pub mod LongRun

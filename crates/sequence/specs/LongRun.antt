@@ -14,7 +14,7 @@ use Rattle.model.specs.Bytes.{bytes}
 use Rattle.model.specs.Geometry.{geometryOk, dataBlock}
 use Rattle.model.specs.Zones.{active, onPages, availableOf, cleanIn, usedIn, scanOf, zonesOf, freeIndex, pastBlock, takeOne, refill, zonesTaken, formatZones}
 use Rattle.model.specs.Answers.{refused}
-use Rattle.model.specs.World.{World, Plan, none, program, applyOp, isNone}
+use Rattle.model.specs.World.{World, Plan, none, applyOp, isNone}
 use Rattle.model.specs.Frame.{freePlace, badId, mostPages, isIdle, gate, freshState}
 use Rattle.model.specs.Transactions.{placeOf, withPlace, cleanPages, nextPage, zoneShort, begun, liveId, planBegin, taking}
 use Rattle.model.specs.Transactions.{withLast, written, heldOp, heldState, writePlan, markPlan, planCommit}
@@ -24,37 +24,22 @@ use Rattle.model.specs.Book.{Book, Event, called, blank, tell}
 use Rattle.model.specs.Sequence.{fits, Running, live, left, runsAfter, Step, call, Formatted}
 use Rattle.model.specs.declared.Geometry.{Geometry}
 use Rattle.model.specs.declared.Place.{Place}
-use Rattle.model.specs.declared.Spare.{Spare}
 use Rattle.model.specs.declared.State.{State}
 use Rattle.arrays.specs.Tests.{Is, eqb-cases}
 use Rattle.arrays.specs.Ranges.{geometry-in}
-use Rattle.arrays.specs.Whole.{whole-not-blank}
-use Rattle.arrays.specs.Ops.{program-other}
-use Rattle.arrays.specs.Arrays.{programmed-whole}
 use Rattle.front.specs.FormatCalls.{Starts, formatted}
-use Rattle.scanlog.specs.Tidy.{clean-next}
 use Rattle.scanlog.specs.Start.{scan-format}
 use Rattle.sequence.specs.Places.{placeAt, place-found}
 use Rattle.sequence.specs.PlaceIn.{most-one}
-use Rattle.sequence.specs.Live.{Live, live-frame}
+use Rattle.sequence.specs.Live.{live-frame}
 use Rattle.sequence.specs.View.{View, after}
 use Rattle.sequence.specs.SameShape.{held-same}
-use Rattle.sequence.specs.Append.{Appends}
+use Rattle.sequence.specs.Append.{append-clean}
 use Rattle.sequence.specs.Write.{WritesTo, page-appends, write-told, write-bytes, add-shape, add-live}
 use Rattle.sequence.specs.Beside.{either-none}
 use Rattle.sequence.specs.Start.{format-zones-ok, formatted-idle, fresh-erased, some-formatted}
 use Rattle.sequence.specs.Theorem.{LiveAt, step-holds, start-holds}
 use Rattle.sequence.specs.Former.{formerWrite, FormerStep, step, wrote, FormerRun, end, then, former-view, former-done}
-
--- ---- a page appended takes a clean one
-pub append-clean : (w : World) (b : Book) (h : Live w b) (s : Spare) (p : Plan) → Appends w b h s p → cleanPages w ≡ suc (cleanPages (after p w))
-unfolding carried
-append-clean w b h s p a =
-    let n = w .state .geometry .pages in
-    rw (a .does, a .geometry, a .zones)
-    (clean-next (w .state .geometry) (w .array) (w .state .zones) (w .state .last) (h .tidy) (a .clean) (applyOp n (program (nextPage w) (a .new)) (w .array))
-    (program-other n (w .array) (nextPage w) (a .new) (a .ok .fits))
-    (whole-not-blank _ (nextPage w) (programmed-whole n (w .array) (nextPage w) (a .new) (a .ok))))
 
 -- ---- the flash, and what is written
 abbrev pub flash : Geometry

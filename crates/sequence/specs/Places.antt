@@ -8,14 +8,14 @@ use mathlib.Core.List.{List, [], _∷_}
 use lib.ListN.{length, set, getD, length-set}
 use lib.Seq.{getD-set-same, getD-set-other}
 use lib.Dec.{eqb, leb}
-use borrow.Author.Tests.{eqb-true, eqb-false, ne-eqb, leb-false, not-true, le-leb}
+use borrow.Author.Tests.{eqb-true, eqb-false, eq-eqb, ne-eqb, leb-false, not-true, le-leb}
 use Rattle.model.specs.Lists.{all, any, allTails, find}
 use Rattle.model.specs.Zones.{hasId, active}
 use Rattle.model.specs.Frame.{noPlace, freePlace, badId, mostPages, placeOk, alone, placesOk}
 use Rattle.model.specs.Transactions.{placeOf, begun}
 use Rattle.model.specs.declared.Geometry.{Geometry}
 use Rattle.model.specs.declared.Place.{Place}
-use Rattle.arrays.specs.Tests.{Is, eqb-cases, clash, and-both, or-left, or-right, none-all, all-at, find-passes, all-by-at}
+use Rattle.arrays.specs.Tests.{Is, eqb-cases, clash, and-both, or-left, or-right, none-all, all-at, any-at, any-find, find-passes, all-by-at}
 
 -- ---- definitions
 -- place i
@@ -100,6 +100,21 @@ place-found ps id e h = go (eqb-cases id 0) h
         let f : leb 8 (find (hasId id) ps) ≡ false = rw (q .1) at k in
         let l : find (hasId id) ps < length ps = omega (arith, leb-false 8 (find (hasId id) ps) f) in
         rw (q .1) (record { low = l; is = eqb-true _ _ (find-passes (hasId id) ps noPlace l); some = q .0 })
+
+-- where identifiers are in range, it is found in no other place
+pub found-place : (g : Geometry) (ps : List Place) (id j : ℕ) → PlacesGood g ps → Found ps id j → placeOf ps id ≡ j
+unfolding placeOf
+found-place g ps id j good f = rw (ne-eqb id 0 (f .some)) (go (eqb-cases (find (hasId id) ps) j))
+  where
+    low : find (hasId id) ps < length ps
+    low = any-find (hasId id) ps (any-at (hasId id) ps j noPlace (f .low) (eq-eqb _ id (f .is)))
+
+    here : placeAt ps (find (hasId id) ps) .id ≡ id
+    here = eqb-true _ id (find-passes (hasId id) ps noPlace low)
+
+    go : Is (find (hasId id) ps) j → find (hasId id) ps ≡ j
+    go (inl q) = q .0
+    go (inr q) = absurd (good .apart (find (hasId id) ps) j low (f .low) (q .0) (λ z. f .some (sym here ∙ z)) (f .is ∙ sym here))
 
 -- an identifier that is not active is in no place
 pub inactive : (ps : List Place) (id : ℕ) → id ≢ 0 → active id ps ≡ false → (j : ℕ) → j < length ps → placeAt ps j .id ≢ id
