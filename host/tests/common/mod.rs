@@ -21,6 +21,7 @@ pub fn say(line: &str) {
 pub const NAMES: [&str; 11] = ["format", "recover", "begin", "write", "drop", "lone", "commit", "abort", "read", "checkpoint", "reclaim"];
 
 /// How often each command gave each answer.
+#[derive(Clone)]
 pub struct Met([[usize; 256]; NAMES.len()]);
 
 impl Met {
@@ -90,6 +91,7 @@ pub fn told(world: &Store) -> String {
 }
 
 /// Random numbers by splitmix64: a seed always gives the same ones.
+#[derive(Clone)]
 pub struct Rng(u64);
 
 impl Rng {
