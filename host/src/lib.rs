@@ -169,7 +169,25 @@ impl Store {
         Answer::of(raw::lone(self, lpn, data))
     }
 
-    /// Closes a change and enters its pages.
+    /// Closes a change and enters its pages. Of two changes that write and drop no logical page in common it does not matter which is
+    /// committed first: if both are done one straight after the other, so they are in the other order, and every page reads the same.
+    ///
+    /// ```
+    /// use bokuhira::{Answer, Geometry, Refusal, Store, DATA};
+    ///
+    /// fn main() -> Result<(), Refusal> {
+    ///     let mut store = Store::formatted(Geometry::new(8, 8, 16))?;
+    ///     assert_eq!(store.lone(4, &[0x44; DATA]), Answer::Done);
+    ///     assert_eq!((store.begin(7), store.begin(8)), (Answer::Done, Answer::Done));
+    ///     assert_eq!(store.write(7, 3, &[0x33; DATA]), Answer::Done);
+    ///     assert_eq!(store.drop_page(8, 4), Answer::Done);
+    ///     let mut other = store.clone();
+    ///     assert_eq!((store.commit(7), store.commit(8)), (Answer::Done, Answer::Done));
+    ///     assert_eq!((other.commit(8), other.commit(7)), (Answer::Done, Answer::Done));
+    ///     assert!((0..16).all(|lpn| store.read(lpn) == other.read(lpn)));
+    ///     Ok(())
+    /// }
+    /// ```
     pub fn commit(&mut self, id: u32) -> Answer {
         Answer::of(raw::commit(self, id))
     }

@@ -36,7 +36,11 @@ const GROUPS: [(&str, &[Word]); 4] = [
             word("write", "write ID LPN DATA", "adds a page to an open change, which may have 41, as in: write 5 3 \"VLAN 20\" ('help data')"),
             word("drop", "drop ID LPN", "adds the drop of a page to an open change: after the commit it reads as never written"),
             word("lone", "lone LPN DATA", "writes a page by itself"),
-            word("commit", "commit ID", "closes a change: what it wrote holds from now on, what it dropped is gone"),
+            word(
+                "commit",
+                "commit ID",
+                "closes a change: what it wrote holds from now on, what it dropped is gone; of changes that share no page either may go first",
+            ),
             word("abort", "abort ID", "forgets an open change"),
             word("read", "read LPN", "the page as it holds now"),
             word("checkpoint", "checkpoint", "one stride of a checkpoint: map and zones go to the front"),
