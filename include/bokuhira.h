@@ -316,8 +316,8 @@ uint8_t bokuhira_lone(uint8_t *array, size_t array_len, uint16_t *map, size_t ma
  * change with nothing written is closed with no page and no version. Refused, it stays open.
  * Services with a change each need not agree who commits first, as long as no logical page is written or dropped in both changes: where
  * the two commits are done one straight after the other, they are done in the other order too, and every logical page reads the same in
- * either, also after a power cut next and a recover. Array, map and versions may differ. A page in both changes is what the later commit
- * makes it.
+ * either, also after a power cut next and a recover. Array, map and the versions of the marks may differ. A page in both changes is
+ * what the later commit makes it.
  * Changes array, map, state. Refuses: 1, 17, 8, 13, 12 (the last two only where a page is held).
  */
 BOKUHIRA_CHECKED
