@@ -1,4 +1,1 @@
-pub mod Putting
-pub mod Decimals
-pub mod Blocks
 pub mod Parsing

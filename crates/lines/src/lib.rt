@@ -1,10 +1,10 @@
 // The lines of the program `report`, read and put: a name, then a number or a list of blocks. It knows no array and no device.
 ghost use mathlib.Core.Path.{_≡_};
 ghost use Prim.Native.Nat.{_+_, _*_, _≤_};
-ghost use mathlib.Core.List.{_++_};
 ghost use lib.ListN.{length, take};
 ghost use Rattle.lines.specs.Input.{valueFrom, lineOf, lineIn, taken};
-ghost use Rattle.lines.specs.Text.{decimal, comma, listed, numberLine, blocksLine, Put};
+ghost use Rattle.text.specs.Text.{Put};
+ghost use Rattle.lines.specs.Text.{numberLine, blocksLine};
 
 /// What a line says: a number, and how many bytes the line takes; or nothing.
 pub enum Parsed {
@@ -67,63 +67,14 @@ pub fn line(name: &[u8], text: &[u8]) -> Parsed
     }
 }
 
-/// Puts bytes behind the first `at` of out, and answers how many stand there then.
-fn put(out: &mut [u8], at: usize, text: &[u8]) -> usize
-    requires { ⌜ at + length (now text) ≤ length (now out) ⌝ }
-    ensures { λ r. ⌜ Put (now (out .entry)) at (now (text .entry)) (length (now (text .entry))) (now (out .exit)) r ⌝ }
-{
-    let n = bytes::copy(text, &mut out[at..]);
-    at + n
-}
-
-/// Puts a number in decimal.
-fn put_number(out: &mut [u8], at: usize, n: u64) -> usize
-    requires { ⌜ at + 20 ≤ length (now out) ⌝ }
-    ensures { λ r. ⌜ Put (now (out .entry)) at (decimal n) 20 (now (out .exit)) r ⌝ }
-{
-    let mut digits = [0u8; 20];
-    let k = io::decimal(n, &mut digits);
-    put(out, at, &digits[..k])
-}
-
-/// Puts block b, with a comma unless none was put before it.
-fn put_block(out: &mut [u8], at: usize, before: usize, b: u8) -> usize
-    requires { ⌜ at + 21 ≤ length (now out) ⌝ }
-    ensures { λ r. ⌜ Put (now (out .entry)) at (comma before ++ decimal b) 21 (now (out .exit)) r ⌝ }
-{
-    if before == 0 {
-        return put_number(out, at, b as u64);
-    }
-    let a = put(out, at, b",");
-    put_number(out, a, b as u64)
-}
-
-/// Puts the first n of some blocks, with commas between.
-fn put_blocks(out: &mut [u8], at: usize, blocks: &[u8], n: u8) -> usize
-    requires { ⌜ at + 21 * length (now blocks) ≤ length (now out) ⌝ }
-    ensures { λ r. ⌜ Put (now (out .entry)) at (listed 0 (take n (now (blocks .entry)))) (21 * length (now (blocks .entry))) (now (out .exit)) r ⌝ }
-{
-    let most = n as usize;
-    let mut end = at;
-    let mut i: usize = 0;
-    while i < blocks.len() {
-        if most <= i {
-            return end;
-        }
-        end = put_block(out, end, i, blocks[i]);
-        i += 1;
-    }
-    end
-}
-
 /// Puts a line with a name and a number.
 pub fn number_line(out: &mut [u8], at: usize, name: &[u8], n: u64) -> usize
     requires { ⌜ at + (length (now name) + 21) ≤ length (now out) ⌝ }
     ensures { λ r. ⌜ Put (now (out .entry)) at (numberLine (now (name .entry)) n) (length (now (name .entry)) + 21) (now (out .exit)) r ⌝ }
 {
-    let a = put(out, at, name);
-    let b = put_number(out, a, n);
-    put(out, b, b"\n")
+    let a = text::put(out, at, name);
+    let b = text::put_number(out, a, n);
+    text::put(out, b, b"\n")
 }
 
 /// Puts a line with a name and blocks.
@@ -131,7 +82,7 @@ pub fn blocks_line(out: &mut [u8], at: usize, name: &[u8], blocks: &[u8], n: u8)
     requires { ⌜ at + (length (now name) + 21 * length (now blocks) + 1) ≤ length (now out) ⌝ }
     ensures { λ r. ⌜ Put (now (out .entry)) at (blocksLine (now (name .entry)) (take n (now (blocks .entry)))) (length (now (name .entry)) + 21 * length (now (blocks .entry)) + 1) (now (out .exit)) r ⌝ }
 {
-    let a = put(out, at, name);
-    let b = put_blocks(out, a, blocks, n);
-    put(out, b, b"\n")
+    let a = text::put(out, at, name);
+    let b = text::put_list(out, a, blocks, n);
+    text::put(out, b, b"\n")
 }

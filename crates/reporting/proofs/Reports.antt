@@ -20,9 +20,10 @@ use Rattle.arrays.specs.Tests.{and-left}
 use Rattle.arrays.specs.Ranges.{geometry-in}
 use Rattle.lines.specs.Input.{says, illFormed, lineOf}
 use Rattle.lines.specs.Names.{blocksName, pagesName, logicalName, answerName}
-use Rattle.lines.specs.Text.{numberLine, Put}
+use Rattle.text.specs.Text.{Put}
+use Rattle.lines.specs.Text.{numberLine}
 use Rattle.reporting.specs.Report.{tornPages, outcomeText, emptyHold, lent, arrayReport, reportOf, ScanFits}
-use Rattle.lines.proofs.Putting.{put-within, put-is}
+use Rattle.text.proofs.Putting.{put-within, put-is}
 use Rattle.outcome.specs.Text.{answerText}
 use Rattle.outcome.proofs.Answers.{refused-text}
 use Rattle.reporting.proofs.Done.{done-fits}

@@ -6,7 +6,7 @@ ghost use lib.ListN.{length, take};
 ghost use Rattle.io.specs.Counts.{Counts};
 ghost use Rattle.model.specs.Zones.{tornOf};
 ghost use Rattle.model.specs.Commands.{exec, recover};
-ghost use Rattle.lines.specs.Text.{Put};
+ghost use Rattle.text.specs.Text.{Put};
 ghost use Rattle.reporting.specs.Report.{ScanFits, outcomeText, lent, arrayReport, reportOf};
 use device::Device;
 use lines::Parsed;

@@ -6,7 +6,8 @@ use native.Mathlib.Numerals.{add-one}
 use native.Mathlib.Omega.{arith}
 use lib.ListN.{take}
 use lib.Count.{ones}
-use Rattle.lines.specs.Text.{numberLine, Put}
+use Rattle.text.specs.Text.{Put}
+use Rattle.lines.specs.Text.{numberLine}
 use Rattle.table.specs.Counts.{counts}
 use Rattle.zerotable.specs.Text.{linesOf}
 

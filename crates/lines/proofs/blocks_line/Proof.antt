@@ -1,7 +1,7 @@
 -- `lines::blocks_line` meets its contract: name, blocks and line end put one behind the other. Assumes nothing.
 use native.Mathlib.Omega.{arith}
 use Rattle.lines.specs.Text.{blocksLine}
-use Rattle.lines.proofs.Putting.{puts, put-within}
+use Rattle.text.proofs.Putting.{puts, put-within}
 use borrow.Author.Needs.{needs}
 use Rattle.lines.proofs.blocks_line.Statement.{statement}
 use Rattle.lines.proofs.blocks_line.Tie as tie
@@ -9,8 +9,8 @@ use Rattle.lines.proofs.blocks_line.Tie as tie
 put-requires : tie.Need-put-requires
 put-requires c κs = search needs
 
-put-blocks-requires : tie.Need-put-blocks-requires
-put-blocks-requires c κs = search needs
+put-list-requires : tie.Need-put-list-requires
+put-list-requires c κs = search needs
 
 slice-aggregate-put : tie.Need-slice-aggregate-put
 slice-aggregate-put c = search needs
@@ -23,14 +23,14 @@ same-length c = search needs
 
 returns : tie.Need-returns
 unfolding blocksLine
-returns c = put-within (puts (puts (c .before .before .before .before .before .before .before .before .before .before .before .put .ensures) (c .before .before .before .before .before .before .before .put-blocks .ensures)) (c .before .before .put2 .ensures)) (omega arith)
+returns c = put-within (puts (puts (c .before .before .before .before .before .before .before .before .before .before .before .put .ensures) (c .before .before .before .before .before .before .before .put-list .ensures)) (c .before .before .put2 .ensures)) (omega arith)
 
 pub blocks-line-spec : {M : Type 1} → statement M
 blocks-line-spec =
     tie.close
     (tie.spec
     put-requires
-    put-blocks-requires
+    put-list-requires
     slice-aggregate-put
     put-requires-2
     same-length

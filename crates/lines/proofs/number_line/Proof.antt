@@ -1,7 +1,7 @@
 -- `lines::number_line` meets its contract: name, number and line end put one behind the other. Assumes nothing.
 use native.Mathlib.Omega.{arith}
 use Rattle.lines.specs.Text.{numberLine}
-use Rattle.lines.proofs.Putting.{puts, put-within}
+use Rattle.text.proofs.Putting.{puts, put-within}
 use borrow.Author.Needs.{needs}
 use Rattle.lines.proofs.number_line.Statement.{statement}
 use Rattle.lines.proofs.number_line.Tie as tie

@@ -1,7 +1,7 @@
 -- `outcome::count_lines` meets its contract: the two lines put one behind the other. Assumes nothing.
 use native.Mathlib.Omega.{arith}
 use Rattle.outcome.specs.Text.{countsText}
-use Rattle.lines.proofs.Putting.{puts, put-within}
+use Rattle.text.proofs.Putting.{puts, put-within}
 use borrow.Author.Needs.{needs}
 use Rattle.outcome.proofs.count_lines.Statement.{statement}
 use Rattle.outcome.proofs.count_lines.Tie as tie

@@ -1,7 +1,7 @@
 -- `outcome::done_lines` meets its contract: the answer line, and the others behind it. Assumes nothing.
 use mathlib.Core.Path.{refl}
 use native.Mathlib.Omega.{arith}
-use Rattle.lines.proofs.Putting.{puts, put-within, put-is}
+use Rattle.text.proofs.Putting.{puts, put-within, put-is}
 use Rattle.outcome.proofs.Answers.{done-text}
 use borrow.Author.Needs.{needs}
 use Rattle.outcome.proofs.done_lines.Statement.{statement}

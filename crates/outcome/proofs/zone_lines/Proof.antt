@@ -3,7 +3,7 @@ use mathlib.Core.Path.{_≡_}
 use native.Mathlib.Omega.{arith}
 use lib.ListN.{length}
 use Rattle.outcome.specs.Text.{zonesText}
-use Rattle.lines.proofs.Putting.{puts, put-within}
+use Rattle.text.proofs.Putting.{puts, put-within}
 use borrow.Author.Needs.{needs}
 use Rattle.outcome.proofs.zone_lines.Statement.{statement}
 use Rattle.outcome.proofs.zone_lines.Tie as tie

@@ -7,7 +7,7 @@ use lib.ListN.{length, take}
 use lib.Seq.{length-take-le}
 use borrow.Author.Needs.{needs}
 use Rattle.lines.specs.Text.{numberLine}
-use Rattle.lines.proofs.Putting.{put-is}
+use Rattle.text.proofs.Putting.{put-is}
 use Rattle.table.specs.Counts.{counts}
 use Rattle.zerotable.specs.Text.{linesOf}
 use Rattle.zerotable.proofs.Printing.{lines-again, lines-done}

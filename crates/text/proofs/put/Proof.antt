@@ -1,8 +1,8 @@
--- `lines::put` meets its contract: by what the copy leaves. Assumes nothing.
-use Rattle.lines.proofs.Putting.{put-copied}
+-- `text::put` meets its contract: by what the copy leaves. Assumes nothing.
+use Rattle.text.proofs.Putting.{put-copied}
 use borrow.Author.Needs.{needs}
-use Rattle.lines.proofs.put.Statement.{statement}
-use Rattle.lines.proofs.put.Tie as tie
+use Rattle.text.proofs.put.Statement.{statement}
+use Rattle.text.proofs.put.Tie as tie
 
 sub-copy : tie.Need-sub-copy
 sub-copy c = search needs

@@ -1,10 +1,10 @@
--- `lines::put_block` meets its contract: a comma, except before the first, and the number. Assumes nothing.
+-- `text::put_item` meets its contract: a comma, except before the first, and the number. Assumes nothing.
 use native.Mathlib.Omega.{arith}
 use borrow.Author.Tests.{eq-eqb, ne-eqb}
-use Rattle.lines.proofs.Putting.{puts, put-within}
+use Rattle.text.proofs.Putting.{puts, put-within}
 use borrow.Author.Needs.{needs}
-use Rattle.lines.proofs.put_block.Statement.{statement}
-use Rattle.lines.proofs.put_block.Tie as tie
+use Rattle.text.proofs.put_item.Statement.{statement}
+use Rattle.text.proofs.put_item.Tie as tie
 
 put-number-requires : tie.Need-put-number-requires
 put-number-requires c κs = search needs
@@ -30,8 +30,8 @@ same-length-2 c = search needs
 returns-2 : tie.Need-returns-2
 returns-2 c = rw (ne-eqb _ _ (c .before .before .before .before .before .before .before .before .before .if1 .left)) (put-within (puts (c .before .before .before .before .before .before .put .ensures) (c .before .before .put-number2 .ensures)) (omega arith))
 
-pub put-block-spec : {M : Type 1} → statement M
-put-block-spec =
+pub put-item-spec : {M : Type 1} → statement M
+put-item-spec =
     tie.close
     (tie.spec
     put-number-requires

@@ -1,9 +1,9 @@
--- `lines::put_number` meets its contract: by the digits that `io` gives. Assumes nothing.
+-- `text::put_number` meets its contract: by the digits that `io` gives. Assumes nothing.
 use native.Mathlib.Omega.{arith}
-use Rattle.lines.proofs.Decimals.{few-digits, put-digits}
+use Rattle.text.proofs.Decimals.{few-digits, put-digits}
 use borrow.Author.Needs.{needs}
-use Rattle.lines.proofs.put_number.Statement.{statement}
-use Rattle.lines.proofs.put_number.Tie as tie
+use Rattle.text.proofs.put_number.Statement.{statement}
+use Rattle.text.proofs.put_number.Tie as tie
 
 decimal-requires : tie.Need-decimal-requires
 decimal-requires c κs = search needs

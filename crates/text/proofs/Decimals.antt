@@ -9,7 +9,7 @@ use lib.Dec.{leb}
 use borrow.Author.Tests.{lt-ltb, le-ltb, leb-true, leb-false}
 use Rattle.io.specs.Digits.{digits, glyph, Fewest}
 use lib.ListN.{length, take}
-use Rattle.lines.specs.Text.{digitsIn, decimal, Put}
+use Rattle.text.specs.Text.{digitsIn, decimal, Put}
 
 -- the last digit
 last : (n : ℕ) → glyph (n % 10) ≡ 48 + n % 10

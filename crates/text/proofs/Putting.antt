@@ -1,11 +1,11 @@
 -- Texts put one behind the other. Assumes nothing.
-use mathlib.Core.Path.{_≡_, ap, _∙_}
-use mathlib.Core.List.{List, _++_, append-assoc}
+use mathlib.Core.Path.{_≡_, refl, sym, ap, _∙_}
+use mathlib.Core.List.{List, [], _++_, append-assoc, append-nil}
 use Prim.Native.Nat.{ℕ, _+_, _-_, _≤_}
 use native.Mathlib.Omega.{arith}
 use lib.ListN.{length, take, drop, length-append, length-take, length-drop}
-use lib.Seq.{take-length, take-at}
-use Rattle.lines.specs.Text.{Put}
+use lib.Seq.{take-length, take-at, take-take, length-take-le}
+use Rattle.text.specs.Text.{Put}
 
 -- a text behind another
 pub puts : {a s b t c : List ℕ} {at m r n q : ℕ} → Put a at s m b r → Put b r t n c q → Put a at (s ++ t) (m + n) c q
@@ -18,6 +18,21 @@ put-within x h = record { is = x .is; far = omega (arith, x .far); same = x .sam
 -- a text that is another
 pub put-is : {a s t b : List ℕ} {at m r : ℕ} → s ≡ t → Put a at s m b r → Put a at t m b r
 put-is {a} {s} {t} {b} {at} e p = record { is = p .is ∙ ap (λ (u : List ℕ). take at a ++ u) e; far = p .far; same = p .same }
+
+-- no text
+pub put-nothing : (a : List ℕ) (at n : ℕ) → Put a at [] n a at
+put-nothing a at n = record { is = sym (append-nil (take at a)); far = omega arith; same = refl }
+
+-- a text dropped again
+pub put-dropped : {a s b : List ℕ} {at m r : ℕ} (n : ℕ) → at ≤ length a → Put a at s m b r → Put a at [] n b at
+put-dropped {a} {s} {b} {at} {m} {r} n h x =
+    let long : length (take r b) ≡ at + length s = rw (x .is, length-append, length-take) (omega arith) in
+    let wide : at ≤ r = omega (arith, long, length-take r b) in
+    record {
+      is = sym (take-take at r b wide) ∙ ap (take at) (x .is) ∙ take-at (take at a) s at (length-take-le at a h) ∙ sym (append-nil (take at a));
+      far = omega arith;
+      same = x .same;
+    }
 
 -- what a copy puts, ys the part it was lent as it is then
 pub put-copied : (out text ys : List ℕ) (at n : ℕ) → at + length text ≤ length out → n ≡ length text
