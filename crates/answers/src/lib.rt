@@ -1,6 +1,6 @@
 // Answers by the numbers of document 01 (docs/PAPERS.md), for those who hand them on: 0 done, 255 more, else the refusal's number in the table.
 ghost use mathlib.Core.Path.{_≡_};
-ghost use Rattle.model.specs.Answers.{refusalNumber, number};
+ghost use Rattle.model.specs.Answers.{refusalNumber, number, refused};
 use model::Answer;
 use model::Refusal;
 
@@ -38,4 +38,14 @@ pub fn number(answer: Answer) -> u8
         Answer::More => 255,
         Answer::Refused(why) => refusal_number(why),
     }
+}
+
+/// Whether an answer with this number is a refusal.
+pub fn refused(answer: u8) -> bool
+    ensures { λ r. ⌜ r ≡ refused answer ⌝ }
+{
+    if answer == 0 {
+        return false;
+    }
+    answer != 255
 }

@@ -3,3 +3,4 @@ pub mod Devices
 pub mod Runs
 pub mod Planes
 pub mod EitherOrder
+pub mod Sessions

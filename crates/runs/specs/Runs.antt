@@ -12,7 +12,7 @@ use Rattle.model.specs.Page.{classOf, pageAt}
 use Rattle.model.specs.Geometry.{geometryOk, blankMap}
 use Rattle.model.specs.Zones.{zonesOf, onPages, hasId, active}
 use Rattle.model.specs.Checkpoint.{mapPage, zonePage, zoneData}
-use Rattle.model.specs.World.{Plan, refuse}
+use Rattle.model.specs.World.{World, Plan, refuse}
 use Rattle.model.specs.Frame.{freePlace, freshState, badId}
 use Rattle.model.specs.Transactions.{readPart, dataBytes, changeBytes, gone, withPlace, begun}
 use lib.Dec.{leb, ltb}
@@ -75,8 +75,11 @@ abbrev pub hold : List ℕ → List ℕ
 hold d = d ++ replicate 3584 0
 
 -- a state that a cut may leave
+abbrev pub nowhere : Geometry
+nowhere = record { blocks = 0; pages = 0; logical = 0; planes = 1 }
+
 abbrev pub lost : State
-lost = freshState (record { blocks = 0; pages = 0; logical = 0; planes = 1 })
+lost = freshState nowhere
 
 -- ---- the pages that are programmed: of the front
 abbrev pub zones1 : Zones
@@ -315,58 +318,66 @@ w28 = stage 4 0 4 (mapped 24 25) (hold gone) (idle zones2 6 2 (dropping 22 (3 �
 abbrev pub w29 : Device
 w29 = stage 4 0 5 (mapped 65535 25) (hold gone) (idle zones2 7 2 free8)
 
--- ---- the format, of an array of sevens
--- the first k blocks are erased
-unfoldable pub wiped : ℕ → List (List ℕ)
-wiped k = replicate (8 * k) blank ++ replicate (64 - 8 * k) (replicate 528 7)
-
-pub sized-wiped : (k : ℕ) → Sized (wiped k)
-unfolding wiped
-sized-wiped k = sized-append (replicate (8 * k) blank) (replicate (64 - 8 * k) (replicate 528 7)) (sized-replicate (8 * k) blank refl) (sized-replicate (64 - 8 * k) (replicate 528 7) refl)
-
--- any map and state
-abbrev pub whatever : Device
-whatever = record { pages = wiped 0; sized = sized-wiped 0; map = replicate 16 0; hold = hold zeros; state = lost }
+-- ---- the format, of an array of one byte
+erased-block : replicate 4224 255 ≡ flat (replicate 8 blank)
+unfolding flat
+erased-block = refl
 
 -- k strides done
 abbrev pub strode : ℕ → State
 strode k = withWork (freshState small) 0 0 (Format k)
 
-abbrev pub underWay : ℕ → Device
-underWay k = record { pages = wiped k; sized = sized-wiped k; map = blankMap small; hold = hold zeros; state = strode k }
-
-erased-block : replicate 4224 255 ≡ flat (replicate 8 blank)
-unfolding flat
-erased-block = refl
-
-first-erase : exec (format small) (world whatever) ≡ record { answer = 255; world = world (underWay 1) }
-unfolding go lentOn wiped
-first-erase = format-erases whatever small 0 refl refl refl (replicate 8 blank) refl erased-block
-
-erases : (k : ℕ) → lentOn small (underWay k) ≡ true → stridesDone small (strode k) (Format k) ≡ k → formatWorkOk small (world (underWay k)) (Format k) ≡ true → ltb k 8 ≡ true
-    → splice (wiped k) (k * 8) 8 (replicate 8 blank) ≡ wiped (k + 1) → Formatting small (world (underWay k)) → Formatting small (world (underWay (k + 1)))
-unfolding withWork
-erases k len done ready b e f =
-    format-more f (format-erases (underWay k) small k len done ready (replicate 8 blank) b erased-block
-    ∙ ap (λ (qs : List (List ℕ)). record { answer = 255; world = device qs (blankMap small) (hold zeros) (strode (k + 1)) }) e)
-
-all-erased : Formatting small (world (underWay 8))
-unfolding go lentOn wiped
-all-erased =
-    erases 7 refl refl refl refl refl (erases 6 refl refl refl refl refl (erases 5 refl refl refl refl refl (erases 4 refl refl refl refl refl
-    (erases 3 refl refl refl refl refl (erases 2 refl refl refl refl refl (erases 1 refl refl refl refl refl (format-first (world whatever) refl first-erase)))))))
-
 -- with its map page
 abbrev pub withMap : Device
 withMap = record { pages = map1 ∷ replicate 63 blank; sized = (sized-fronts .0, sized-replicate 63 blank refl); map = blankMap small; hold = hold zeros; state = strode 9 }
 
-map-programmed : Formatting small (world withMap)
-unfolding go lentOn wiped map1
-map-programmed = format-more all-erased (format-maps (underWay 8) small 8 refl refl (format-ready (underWay 8) small 8 refl) map1 refl refl refl)
+module _ (byte : ℕ) where
+  -- the first k blocks are erased
+  unfoldable pub wiped : ℕ → List (List ℕ)
+  wiped k = replicate (8 * k) blank ++ replicate (64 - 8 * k) (replicate 528 byte)
 
-pub formatted : Formatted small (world w0)
+  pub sized-wiped : (k : ℕ) → Sized (wiped k)
+  unfolding wiped
+  sized-wiped k = sized-append (replicate (8 * k) blank) (replicate (64 - 8 * k) (replicate 528 byte)) (sized-replicate (8 * k) blank refl) (sized-replicate (64 - 8 * k) (replicate 528 byte) refl)
+
+  -- any map, and a state with nothing under way
+  abbrev pub whatever : Geometry → Device
+  whatever g = record { pages = wiped 0; sized = sized-wiped 0; map = replicate 16 0; hold = hold zeros; state = freshState g }
+
+  abbrev pub underWay : ℕ → Device
+  underWay k = record { pages = wiped k; sized = sized-wiped k; map = blankMap small; hold = hold zeros; state = strode k }
+
+  pub first-erase : (g : Geometry) → exec (format small) (world (whatever g)) ≡ record { answer = 255; world = world (underWay 1) }
+  unfolding go lentOn wiped
+  first-erase g = format-erases (whatever g) small 0 refl refl refl (replicate 8 blank) refl erased-block
+
+  erases : (k : ℕ) → lentOn small (underWay k) ≡ true → stridesDone small (strode k) (Format k) ≡ k → formatWorkOk small (world (underWay k)) (Format k) ≡ true → ltb k 8 ≡ true
+      → splice (wiped k) (k * 8) 8 (replicate 8 blank) ≡ wiped (k + 1) → exec (format small) (world (underWay k)) ≡ record { answer = 255; world = world (underWay (k + 1)) }
+  unfolding withWork
+  erases k len done ready b e =
+      format-erases (underWay k) small k len done ready (replicate 8 blank) b erased-block
+      ∙ ap (λ (qs : List (List ℕ)). record { answer = 255; world = device qs (blankMap small) (hold zeros) (strode (k + 1)) }) e
+
+  map-programmed : exec (format small) (world (underWay 8)) ≡ record { answer = 255; world = world withMap }
+  unfolding go lentOn wiped map1
+  map-programmed = format-maps (underWay 8) small 8 refl refl (format-ready (underWay 8) small 8 refl) map1 refl refl refl
+
+  -- what holds after the first stride and each stride hands on holds before the last; n more strides are to come
+  pub every-stride : (P : ℕ → World → Type 0) → ((n : ℕ) (w v : World) → exec (format small) w ≡ record { answer = 255; world = v } → P (suc n) w → P n v)
+      → P 9 (world (underWay 1)) → P 1 (world withMap)
+  unfolding go lentOn wiped
+  every-stride P on p =
+      on 1 _ _ map-programmed (on 2 _ _ (erases 7 refl refl refl refl refl) (on 3 _ _ (erases 6 refl refl refl refl refl) (on 4 _ _ (erases 5 refl refl refl refl refl)
+      (on 5 _ _ (erases 4 refl refl refl refl refl) (on 6 _ _ (erases 3 refl refl refl refl refl) (on 7 _ _ (erases 2 refl refl refl refl refl) (on 8 _ _ (erases 1 refl refl refl refl refl) p)))))))
+
+pub last-stride : exec (format small) (world withMap) ≡ record { answer = 0; world = world w0 }
 unfolding go lentOn zone1 pages block
-formatted = format-finished map-programmed (format-ends withMap small 9 refl refl (format-ready withMap small 9 refl) zone1 refl refl refl)
+last-stride = format-ends withMap small 9 refl refl (format-ready withMap small 9 refl) zone1 refl refl refl
+
+-- of sevens, with a lost state
+pub formatted : Formatted small (world w0)
+unfolding go
+formatted = format-finished (every-stride 7 (λ n w. Formatting small w) (λ n w v e f. format-more f e) (format-first (world (whatever 7 nowhere)) refl (first-erase 7 nowhere))) last-stride
 
 -- what a recover is handed after a cut: any map and state
 abbrev pub handed : Device → Device

@@ -33,3 +33,4 @@ pub mod OtherOrder
 pub mod EitherOrder
 pub mod Former
 pub mod LongRun
+pub mod Sessions

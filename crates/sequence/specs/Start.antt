@@ -103,8 +103,9 @@ formatted-idle g w h = ap (λ (s : State). s .work) (formatted g (format-zones-o
 -- there is such a world, for every geometry in range: a format of idle buffers in range comes to its end
 pub some-formatted : (g : Geometry) → geometryOk g ≡ true → (w : World) × Formatted g w
 some-formatted g ok =
-    format-finishes g (format-zones-ok g) (handed (replicate (g .blocks * g .pages * 528) 0) (blankMap g) (replicate 4096 0) (freshState g)) lent
-    (unfold freshState in refl)
+    let f = format-finishes g (format-zones-ok g) (handed (replicate (g .blocks * g .pages * 528) 0) (blankMap g) (replicate 4096 0) (freshState g)) lent
+    (unfold freshState in refl) in
+    (_, f)
   where
     lent : lentOk g (handed (replicate (g .blocks * g .pages * 528) 0) (blankMap g) (replicate 4096 0) (freshState g)) ≡ true
     lent =
