@@ -35,12 +35,12 @@ commands-append (c ∷ cs) ds h k = (h .0, commands-append cs ds (h .1) k)
 pub session-long : (n k : ℕ) → length (session n k) ≡ n
 unfolding session
 session-long zero k = refl
-session-long (suc n) k = length-append (session n (k / 10)) ((1 + k % 10) ∷ []) ∙ omega (arith, session-long n (k / 10))
+session-long (suc n) k = length-append (session n (k / 10)) _ ∙ omega (arith, session-long n (k / 10))
 
 pub session-commands : (n k : ℕ) → Commands (session n k)
 unfolding session
 session-commands zero k = tt
-session-commands (suc n) k = commands-append (session n (k / 10)) ((1 + k % 10) ∷ []) (session-commands n (k / 10)) ((omega arith, omega arith), tt)
+session-commands (suc n) k = commands-append (session n (k / 10)) _ (session-commands n (k / 10)) ((omega arith, omega arith), tt)
 
 -- its number is k
 pub session-number : (n k : ℕ) → k < power n → numberOf (session n k) ≡ k
@@ -49,7 +49,7 @@ session-number zero k l = omega arith
 session-number (suc n) k l =
     let h : k / 10 < power n = omega arith in
     let e = session-number n (k / 10) h in
-    number-last 0 (session n (k / 10)) (1 + k % 10) ∙ omega (arith, e)
+    number-last 0 (session n (k / 10)) _ ∙ omega (arith, e)
 
 -- a list from its end
 data Snoc : List ℕ → Type 0 where
