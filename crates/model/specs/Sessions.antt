@@ -94,10 +94,11 @@ unfoldable pub sessionsUp : ℕ → ℕ → List (List ℕ)
 sessionsUp n zero = []
 sessionsUp n (suc j) = sessionsFrom n 0 (power n) ++ sessionsUp (suc n) j
 
--- those of "none to four commands in which none is refused"
+-- those of a list "in which none is refused"
 unfoldable pub acceptedIn : List (List ℕ) → List (List ℕ)
 acceptedIn css = those (λ (cs : List ℕ). accepted cs fresh) css
 
+-- "the sessions of none to four commands in which none is refused": of five lengths
 unfoldable pub shortSessions : List (List ℕ)
 shortSessions = acceptedIn (sessionsUp 0 5)
 

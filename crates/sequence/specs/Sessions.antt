@@ -10,7 +10,7 @@ use lib.ListN.{length, replicate, length-replicate}
 use lib.Dec.{ltb}
 use borrow.Author.Tests.{not-true}
 use Rattle.model.specs.Lists.{all, keep, those}
-use Rattle.model.specs.Bytes.{bytes, ands, minus}
+use Rattle.model.specs.Bytes.{bytes, minus}
 use Rattle.model.specs.Page.{pageAt}
 use Rattle.model.specs.Geometry.{geometryOk, mapPages}
 use Rattle.model.specs.Answers.{refused}

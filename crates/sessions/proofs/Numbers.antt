@@ -2,7 +2,7 @@
 use mathlib.Core.Path.{_≡_, refl, subst}
 use Prim.Native.Nat.{ℕ, zero, suc, _+_, _-_, _/_, _%_, _≤_, _<_}
 use native.Mathlib.Omega.{arith}
-use Rattle.model.specs.Commands.{Call, begin, write, commit, abort}
+use Rattle.model.specs.Commands.{begin, write, commit, abort}
 use Rattle.model.specs.Sessions.{zeros, commands, commandOf}
 
 -- a law of the numbers from n on, fewer than m, is one of each: the first is n

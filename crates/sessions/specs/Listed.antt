@@ -7,11 +7,11 @@ use mathlib.Core.List.{List, [], _∷_, _++_}
 use Prim.Native.Nat.{ℕ, zero, suc, _+_, _-_, _*_, _/_, _%_, _≤_, _<_}
 use native.Mathlib.Omega.{arith}
 use lib.ListN.{length, length-append}
-use lib.Dec.{leb, eqb}
-use borrow.Author.Tests.{leb-true, leb-false, eqb-true, eqb-false}
+use lib.Dec.{eqb}
+use borrow.Author.Tests.{eqb-true, eqb-false}
 use Rattle.model.specs.Lists.{keep, those}
 use Rattle.model.specs.Sessions.{fresh, accepted, power, session, sessionsFrom, sessionsUp, acceptedIn, shortSessions}
-use Rattle.model.specs.Sessions.{Commands, ShortSession, Among, Lower, Before, BeforeAll, InOrder, EveryShortSession}
+use Rattle.model.specs.Sessions.{Commands, Among, Lower, Before, BeforeAll, InOrder, EveryShortSession}
 
 -- ---- a session and its number
 -- the number that the commands cs make of one whose digits came before: a command is a digit, counted from 1

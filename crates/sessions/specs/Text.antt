@@ -1,7 +1,7 @@
 -- The text of the sessions, and what the functions that put it hand back.
 use Prim.Native.Nat.{ℕ, _+_, _≤_, _<_}
 use mathlib.Core.Path.{_≡_}
-use mathlib.Core.Bool.{Bool, true, false, not}
+use mathlib.Core.Bool.{Bool, false, not}
 use mathlib.Core.List.{List, [], _∷_, _++_}
 use lib.ListN.{length, take, getD}
 use lib.Dec.{eqb}
@@ -58,14 +58,14 @@ Adds before at text after Full = 29696 < at + length text
 unfoldable pub holdsPage : List Place → ℕ → Bool
 holdsPage ps id = not (eqb (getD ps (placeOf ps id) noPlace .count) 0)
 
--- "The next write first programs the held page", and so does a commit
+-- "The next write first programs the held page", and so does a commit; of a call that is not among the ten nothing is told
 unfoldable pub willProgram : Call → List Place → Bool
 willProgram (format g) ps = false
 willProgram (recover g) ps = false
 willProgram (begin id) ps = false
 willProgram (write id lpn d) ps = holdsPage ps id
-willProgram (dropPage id lpn) ps = holdsPage ps id
-willProgram (lone lpn d) ps = true
+willProgram (dropPage id lpn) ps = false
+willProgram (lone lpn d) ps = false
 willProgram (commit id) ps = holdsPage ps id
 willProgram (abort id) ps = false
 willProgram (read lpn) ps = false

@@ -4,7 +4,6 @@ use Prim.Native.Nat.{_-_, _≤_}
 use native.Mathlib.Omega.{arith}
 use lib.ListN.{length}
 use borrow.Author.Needs.{needs}
-use Rattle.model.specs.World.{World}
 use Rattle.model.specs.Frame.{freshState}
 use Rattle.model.specs.Sessions.{small, strides}
 use Rattle.model.specs.declared.State.{State}
