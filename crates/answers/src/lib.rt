@@ -1,6 +1,7 @@
 // Answers by the numbers of document 01 (docs/PAPERS.md), for those who hand them on: 0 done, 255 more, else the refusal's number in the table.
 ghost use mathlib.Core.Path.{_≡_};
-ghost use Rattle.model.specs.Answers.{refusalNumber, number, refused};
+ghost use mathlib.Core.Bool.{true};
+ghost use Rattle.model.specs.Answers.{refusalNumber, number, inTable, refused};
 use model::Answer;
 use model::Refusal;
 
@@ -27,6 +28,35 @@ fn refusal_number(why: Refusal) -> u8
         Refusal::ReserveShort => 16,
         Refusal::Busy => 17,
     }
+}
+
+/// The refusals by their numbers, from 1 up.
+const TABLE: [Refusal; 17] = [
+    Refusal::BadFrame,
+    Refusal::NoCheckpoint,
+    Refusal::BadCheckpoint,
+    Refusal::BadPage,
+    Refusal::BadLogicalPage,
+    Refusal::BadIdentifier,
+    Refusal::IdentifierLive,
+    Refusal::NotBegun,
+    Refusal::PlacesFull,
+    Refusal::TooLong,
+    Refusal::BadLength,
+    Refusal::ZoneShort,
+    Refusal::VersionsSpent,
+    Refusal::NeverWritten,
+    Refusal::NoGain,
+    Refusal::ReserveShort,
+    Refusal::Busy,
+];
+
+/// The answer that refuses with this number.
+pub fn refusal(n: u8) -> Answer
+    requires { ⌜ inTable n ≡ true ⌝ }
+    ensures { λ r. ⌜ number r ≡ n ⌝ }
+{
+    Answer::Refused(TABLE[(n - 1) as usize])
 }
 
 /// The number of an answer.

@@ -5,13 +5,13 @@ use mathlib.Core.Path.{_≡_, refl, sym, ap, _∙_, subst}
 use mathlib.Core.Bool.{Bool, true, false, not, cond, _&&_, false≢true}
 use mathlib.Core.List.{List, []}
 use native.Mathlib.Omega.{arith}
-use lib.Dec.{ltb}
+use lib.Dec.{ltb, eqb}
 use Rattle.model.specs.Answers.{refused}
 use Rattle.model.specs.Geometry.{mapPages, blankMap}
-use Rattle.model.specs.Checkpoint.{mapPage, Found, nothing, at, newest, loadOk}
-use Rattle.model.specs.Recovery.{pagesGood}
-use Rattle.model.specs.Recover.{entriesAt, zonesAt, scannedAt, recoverPlan, recoverFrom, planRecover}
-use Rattle.model.specs.World.{World, program, erase, refuse}
+use Rattle.model.specs.Checkpoint.{mapPage, at}
+use Rattle.model.specs.Recover.{recoverPlan, planRecover, pageTaken, recoverChecks}
+use Rattle.model.specs.World.{World, program, erase, refuse, Plan}
+use Rattle.model.specs.Order.{firstOf}
 use Rattle.model.specs.Frame.{lentOk, freshState}
 use Rattle.model.specs.Strides.{stridesDone, formatWorkOk, formatMore, formatLast, formatStride, planFormat}
 use Rattle.model.specs.Commands.{Call, format, recover, begin, write, dropPage, lone, commit, abort, read, checkpoint, reclaim, plan, carried, Outcome, exec}
@@ -27,6 +27,8 @@ use Rattle.archive.specs.LentRuns.{LentPhase, on, off, LentAllowed, Lent
 use Rattle.archive.specs.Shaped.{shaped-after}
 use Rattle.archive.specs.Coded.{lentOf, resultFor, stored, coded-sized, call-does, does-answer, started-sized, started-other}
 use Rattle.archive.specs.Joined.{Says, said-runs, early-leaves, cut-leaves, cut-tells, early-tells}
+use Rattle.arrays.specs.Tests.{clash}
+use Rattle.arrays.specs.Order.{done-first}
 
 -- ---- a phase as a caller has it
 abbrev pub phaseOf : Phase → LentPhase
@@ -58,41 +60,39 @@ module _ (g : Geometry) (w : World) where
   fresh = worldOf (w .array) (w .map) (w .hold) (freshState g)
 
   -- a recover that is done makes of it the same world
-  from-same : (f : Found) → recoverFrom g w f .answer ≡ 0 → carried (recoverFrom g fresh f) fresh ≡ carried (recoverFrom g w f) w
-  unfolding recoverFrom
-  from-same nothing e = absurd (omega arith)
-  from-same (at k) e = go (loadOk g (entriesAt g (w .array) k) (zonesAt g (w .array) k)) (pagesGood (g .planes) (g .logical) (scannedAt g (w .array) k)) e
-    where
-      go : (s t : Bool) → cond (not s) (refuse w 3) (cond (not t) (refuse w 4) (recoverPlan g k w)) .answer ≡ 0
-          → carried (cond (not s) (refuse fresh 3) (cond (not t) (refuse fresh 4) (recoverPlan g k fresh))) fresh
-          ≡ carried (cond (not s) (refuse w 3) (cond (not t) (refuse w 4) (recoverPlan g k w))) w
-      go true true e = unfold recoverPlan carried in refl
-      go true false e = absurd (omega arith)
-      go false t e = absurd (omega arith)
-
   recover-same : exec (recover g) w .answer ≡ 0 → exec (recover g) fresh ≡ exec (recover g) w
   unfolding exec plan planRecover lentOk
-  recover-same e = go (lentOk g w) (newest (w .array) (mapPages g) (g .pages)) (unfold carried in e)
-    where
-      go : (t : Bool) (f : Found) → cond t (recoverFrom g w f) (refuse w 1) .answer ≡ 0
-          → carried (cond t (recoverFrom g fresh f) (refuse fresh 1)) fresh ≡ carried (cond t (recoverFrom g w f) (refuse w 1)) w
-      go true f e = from-same f e
-      go false f e = absurd (omega arith)
+  recover-same e =
+      rw (done-first (recoverChecks g w) w (recoverPlan g (pageTaken g w) w) (unfold carried in e)) (unfold recoverPlan carried in refl)
 
   -- so does the first stride of a format, which looks at no state; a format refuses with 1 alone
   abbrev done : ℕ
   done = stridesDone g (w .state) (w .state .work)
 
   fresh-plan : lentOk g w ≡ true → planFormat g fresh ≡ formatStride g 0 fresh
-  unfolding planFormat formatWorkOk stridesDone freshState lentOk
+  unfolding planFormat firstOf formatWorkOk stridesDone freshState lentOk
   fresh-plan l = rw l
 
+  -- a stride is no refusal
+  stride-answers : refused (formatStride g done w .answer) ≡ false
+  unfolding formatStride formatMore formatLast refused
+  stride-answers = go (ltb done (g .blocks)) (ltb (done - g .blocks) (mapPages g))
+    where
+      go : (a b : Bool) → refused (cond a (formatMore g done (erase done) w)
+          (cond b (formatMore g done (program (done - g .blocks) (mapPage (blankMap g) (done - g .blocks) 1)) w) (formatLast g w)) .answer) ≡ false
+      go true b = refl
+      go false true = refl
+      go false false = refl
+
+  -- its plan, by what 1 looks at
+  abbrev by : Bool → Plan
+  by b = cond (eqb (cond (not b) 1 0) 0) (formatStride g done w) (refuse w (cond (not b) 1 0))
+
   taken : exec (format g) w .answer ≡ 255 → (lentOk g w ≡ true) × (planFormat g w ≡ formatStride g done w)
-  unfolding exec plan carried planFormat
+  unfolding exec plan carried planFormat firstOf
   taken a = go (lentOk g w) (formatWorkOk g w (w .state .work)) a
     where
-      go : (t u : Bool) → cond (t && u) (formatStride g done w) (refuse w 1) .answer ≡ 255
-          → (t ≡ true) × (cond (t && u) (formatStride g done w) (refuse w 1) ≡ formatStride g done w)
+      go : (t u : Bool) → by (t && u) .answer ≡ 255 → (t ≡ true) × (by (t && u) ≡ formatStride g done w)
       go true true a = (refl, refl)
       go true false a = absurd (omega arith)
       go false u a = absurd (omega arith)
@@ -109,17 +109,12 @@ module _ (g : Geometry) (w : World) where
       rw (fresh-plan (t .0), e) stride-same
 
   refused-one : refused (exec (format g) w .answer) ≡ true → exec (format g) w .answer ≡ 1
-  unfolding exec plan carried planFormat formatStride formatMore formatLast
-  refused-one r = go (lentOk g w && formatWorkOk g w (w .state .work)) (ltb done (g .blocks)) (ltb (done - g .blocks) (mapPages g)) r
+  unfolding exec plan carried planFormat firstOf
+  refused-one r = go (lentOk g w && formatWorkOk g w (w .state .work)) r
     where
-      go : (t a b : Bool) → refused (cond t (cond a (formatMore g done (erase done) w)
-          (cond b (formatMore g done (program (done - g .blocks) (mapPage (blankMap g) (done - g .blocks) 1)) w) (formatLast g w))) (refuse w 1) .answer) ≡ true
-          → cond t (cond a (formatMore g done (erase done) w)
-          (cond b (formatMore g done (program (done - g .blocks) (mapPage (blankMap g) (done - g .blocks) 1)) w) (formatLast g w))) (refuse w 1) .answer ≡ 1
-      go true true b r = absurd (false≢true (unfold refused in r))
-      go true false true r = absurd (false≢true (unfold refused in r))
-      go true false false r = absurd (false≢true (unfold refused in r))
-      go false a b r = refl
+      go : (t : Bool) → refused (by t .answer) ≡ true → by t .answer ≡ 1
+      go true r = clash r stride-answers
+      go false r = refl
 
 -- the bytes of a fresh state say no stride of a format
 fresh-none : (g : Geometry) → stridesSaid g (bytesOf (freshState g)) ≡ 0

@@ -10,6 +10,7 @@ use Rattle.model.specs.Answers.{refused}
 use Rattle.model.specs.Strides.{planFormat}
 use Rattle.model.specs.Recover.{planRecover}
 use Rattle.model.specs.World.{World}
+use Rattle.model.specs.Order.{firstOf}
 use Rattle.model.specs.Frame.{lentOk, freshState}
 use Rattle.model.specs.Commands.{Call, format, recover, begin, write, dropPage, lone, commit, abort, read, checkpoint, reclaim, plan, carried, exec}
 use Rattle.model.specs.Book.{Event, called}
@@ -98,7 +99,7 @@ bare-lent : (g : Geometry) (xs : List ℕ) → lentOk g (bare xs) ≡ false
 bare-lent g xs = not-so (lentOk g (bare xs)) (λ e. omega (arith, lent-lengths g (bare xs) e .hold))
 
 bare-refused : (c : Call) (xs : List ℕ) → isRecovery c ≡ true → exec c (bare xs) .answer ≡ 1
-unfolding exec plan carried planFormat planRecover
+unfolding exec plan carried planFormat planRecover firstOf
 bare-refused (format g) xs r = rw (bare-lent g xs)
 bare-refused (recover g) xs r = rw (bare-lent g xs)
 bare-refused (begin id) xs r = absurd (false≢true r)

@@ -6,20 +6,21 @@ use mathlib.Core.Bool.{Bool, true, false, not, cond, _||_}
 use mathlib.Core.List.{List, []}
 use native.Mathlib.Omega.{arith}
 use lib.ListN.{length, getD}
-use lib.Dec.{eqb, leb}
-use borrow.Author.Tests.{leb-false}
-use Rattle.model.specs.Lists.{elem, part}
+use lib.Dec.{eqb}
+use borrow.Author.Tests.{leb-false, not-false}
+use Rattle.model.specs.Lists.{elem, part, all}
 use Rattle.model.specs.Geometry.{unmapped, dataPage, entryOk, mapOk}
 use Rattle.model.specs.World.{World}
-use Rattle.model.specs.Frame.{gate}
-use Rattle.model.specs.Transactions.{readAnswer, readPart}
+use Rattle.model.specs.Frame.{frameOk}
+use Rattle.model.specs.Transactions.{readAnswer, readPart, readChecks}
 use Rattle.model.specs.Commands.{read, plan, carried, exec}
 use Rattle.model.specs.Book.{Content}
 use Rattle.model.specs.Demand3.{ReadsAs}
 use Rattle.model.specs.declared.Geometry.{Geometry}
 use Rattle.arrays.specs.Tests.{all-at, heads-all}
 use Rattle.arrays.specs.Ranges.{data-page-fits}
-use Rattle.arrays.specs.Frame.{frame-in, gate-passes}
+use Rattle.arrays.specs.Frame.{frame-in}
+use Rattle.arrays.specs.Order.{numbered, Unless, none-applies}
 use Rattle.encoding.specs.Encoding.{bytesOf}
 use Rattle.encoding.specs.StateBack.{Shaped, state-back, coded-back}
 use Rattle.bokuhira.specs.Calls.{foundOf, readCalled}
@@ -34,22 +35,6 @@ unfolding bokuhira readCalled foundOf
 read-is lpn l at = refl
 
 -- ---- a read that is done
--- the three tests that it passed
-record Passed (w : World) (lpn : ℕ) : Type 0 where
-  frame : eqb (gate true w) 0 ≡ true
-  page : leb (w .state .geometry .logical) lpn ≡ false
-  mapped : eqb (getD (w .map) lpn unmapped) unmapped ≡ false
-
-read-passed : (w : World) (lpn : ℕ) → readAnswer lpn w ≡ 0 → Passed w lpn
-unfolding readAnswer
-read-passed w lpn e = let k = go (eqb (gate true w) 0) (leb (w .state .geometry .logical) lpn) (eqb (getD (w .map) lpn unmapped) unmapped) e in record { frame = k .0; page = k .1 .0; mapped = k .1 .1 }
-  where
-    go : (a b c : Bool) → _≡_ {A = ℕ} (cond a (cond b 5 (cond c 14 0)) 1) 0 → (a ≡ true) × ((b ≡ false) × (c ≡ false))
-    go true false false e = (refl, (refl, refl))
-    go true false true e = absurd (omega arith)
-    go true true c e = absurd (omega arith)
-    go false b c e = absurd (omega arith)
-
 -- its entry of the map is a data page, and that is inside the array
 entry-data : (g : Geometry) (seen : List ℕ) (x : ℕ) → entryOk g seen x ≡ true → (eqb x unmapped || dataPage g x) ≡ true
 unfolding entryOk
@@ -61,15 +46,14 @@ entry-data g seen x e = go (eqb x unmapped) (dataPage g x) e
     go false false e = e
 
 read-inside : (w : World) (lpn : ℕ) → readAnswer lpn w ≡ 0 → getD (w .map) lpn unmapped * 528 + 512 ≤ length (w .array)
-unfolding mapOk
-read-inside w lpn e =
-    let p = read-passed w lpn e in
-    let f = frame-in w (gate-passes true w (p .frame)) in
+unfolding mapOk readAnswer numbered all Unless
+read-inside w lpn e = none-applies (readChecks lpn w) refl e (λ frame page mapped.
+    let f = frame-in w (not-false (frameOk w) frame) in
     let g = w .state .geometry in
     let a = all-at (λ (x : ℕ). eqb x unmapped || dataPage g x) (w .map) lpn unmapped
     (heads-all (entryOk g) (λ (x : ℕ). eqb x unmapped || dataPage g x) (entry-data g) [] (w .map) (f .map))
-    (omega (arith, f .lengths .map, leb-false (g .logical) lpn (p .page))) in
-    omega (arith, data-page-fits g (w .array) (f .lengths .array) (getD (w .map) lpn unmapped) (rw (p .mapped) at a))
+    (omega (arith, f .lengths .map, leb-false (g .logical) lpn page)) in
+    omega (arith, data-page-fits g (w .array) (f .lengths .array) (getD (w .map) lpn unmapped) (rw mapped at a)))
 
 -- ---- the fact
 module _ (w : World) (h : Shaped (w .state)) where

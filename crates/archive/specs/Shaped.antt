@@ -1,21 +1,21 @@
 -- Lists as long as the types have them stay so: what any call on any world leaves of a shaped state is shaped. Assumes nothing.
 use Prim.Native.Nat.{ℕ, zero, suc, _+_, _-_, _<_}
-use mathlib.Core.Path.{_≡_, refl, _∙_}
-use mathlib.Core.Bool.{Bool, true, false, not, cond, _&&_}
+use mathlib.Core.Path.{_≡_, refl, _∙_, subst}
+use mathlib.Core.Bool.{Bool, true, false, cond}
 use mathlib.Core.List.{List, [], _∷_}
 use native.Mathlib.Omega.{arith}
 use lib.ListN.{length, getD, set, length-set}
 use lib.Dec.{eqb}
-use Rattle.model.specs.Geometry.{mapPages}
-use Rattle.model.specs.Checkpoint.{Found, nothing, at, newest, loadOk}
-use Rattle.model.specs.Recovery.{pagesGood}
-use Rattle.model.specs.Recover.{entriesAt, zonesAt, scannedAt, recoveredState, recoverPlan, recoverFrom, planRecover}
+use borrow.Author.Tests.{not-false}
+use Rattle.model.specs.Checkpoint.{at, loadOk, isNothing}
+use Rattle.model.specs.Recover.{entriesAt, zonesAt, recoveredState, recoverPlan, planRecover, pageTaken, recoverChecks}
 use Rattle.model.specs.World.{World, Op, none, Plan, refuse}
-use Rattle.model.specs.Frame.{freePlace, noPlace, lentOk, frameOk, gate, freshState}
-use Rattle.model.specs.Transactions.{unless, withPlace, withVersion, withLast, nextPage, taking, spent, begun, planBegin, written, heldState, writePlan}
-use Rattle.model.specs.Transactions.{addPlan, planWrite, gone, planDrop, lonePlan, planLone, markPlan, forgetPlan, planCommit, planAbort, readAnswer}
-use Rattle.model.specs.Strides.{withWork, withZones, withNumber, mapStride, zoneStride, pageStride, otherStride, firstStride, checkpointStride, isCheckpoint}
-use Rattle.model.specs.Strides.{planCheckpoint, isReclaim, picked, copyStride, freeStride, reclaimStride, planReclaim, stridesDone, formatWorkOk, formatMore}
+use Rattle.model.specs.Order.{Check, leaveOut, checked}
+use Rattle.model.specs.Frame.{freePlace, noPlace, lentOk, frameOk, freshState}
+use Rattle.model.specs.Transactions.{withPlace, withVersion, withLast, nextPage, taking, begun, planBegin, written, heldState, writePlan, holds, beginChecks, writeChecks, dropChecks, loneChecks, commitChecks, abortChecks}
+use Rattle.model.specs.Transactions.{planWrite, gone, planDrop, lonePlan, planLone, markPlan, forgetPlan, planCommit, planAbort, readAnswer}
+use Rattle.model.specs.Strides.{withWork, withZones, withNumber, mapStride, zoneStride, pageStride, otherStride, firstStride, checkpointStride, blockTaken, copiesDue, noGain, checkpointChecks, reclaimChecks, formatChecks}
+use Rattle.model.specs.Strides.{planCheckpoint, picked, copyStride, freeStride, reclaimStride, planReclaim, stridesDone, formatMore}
 use Rattle.model.specs.Strides.{formatLast, formatStride, planFormat}
 use Rattle.model.specs.Commands.{Call, format, recover, begin, write, dropPage, lone, commit, abort, read, checkpoint, reclaim, plan, carried, exec}
 use Rattle.model.specs.declared.Geometry.{Geometry}
@@ -24,9 +24,11 @@ use Rattle.model.specs.declared.Zones.{Zones}
 use Rattle.model.specs.declared.State.{State}
 use Rattle.model.specs.declared.Work.{Work}
 use Rattle.model.specs.declared.Work.the-variants.{Idle, Format, Checkpoint, Reclaim}
-use Rattle.arrays.specs.Tests.{and-left}
+use Rattle.model.specs.Lists.{all, those}
+use Rattle.arrays.specs.Tests.{and-left, or-false-left}
 use Rattle.arrays.specs.Ranges.{InGeometry}
-use Rattle.arrays.specs.Frame.{lent-geometry, frame-in, gate-passes}
+use Rattle.arrays.specs.Frame.{lent-geometry, frame-in}
+use Rattle.arrays.specs.Order.{numbered, Unless, by-checks, found-at}
 use Rattle.encoding.specs.StateBack.{PlaceShaped, PlacesShaped, Shaped, fresh-shaped}
 use Rattle.scanlog.specs.Pick.{Picked, picked-is}
 use Rattle.archive.specs.Zones.{ZonesShaped, slide-shaped, format-shaped, freed-shaped, load-shaped}
@@ -102,26 +104,18 @@ leaves-cond : (b : Bool) {p q : Plan} → Leaves p → Leaves q → Leaves (cond
 leaves-cond true hp hq = hp
 leaves-cond false hp hq = hq
 
--- the first plan is made only where the test passes
-leaves-where : (b : Bool) {p q : Plan} → (b ≡ true → Leaves p) → Leaves q → Leaves (cond b p q)
-leaves-where true hp hq = hp refl
-leaves-where false hp hq = hq
-
 module _ (w : World) (h : Shaped (w .state)) where
   leaves-refuse : (n : ℕ) → Leaves (refuse w n)
   leaves-refuse n = record { shaped = h }
 
-  -- refusals 1 and 17
-  leaves-gate : (own : Bool) {p : Plan} → (frameOk w ≡ true → Leaves p) → Leaves (unless (gate own w) w p)
-  leaves-gate own hp = leaves-where (eqb (gate own w) 0) (λ e. hp (gate-passes own w e)) (leaves-refuse (gate own w))
+  -- the checks of a command, and what it does where none applies
+  leaves-checks : (p : Plan) (cs : List Check) → numbered cs ≡ true → Unless cs (Leaves p) → Leaves (checked cs w p)
+  leaves-checks p cs t hp = by-checks Leaves w p cs t (λ n r. leaves-refuse n) hp
 
   -- ---- begin, write, drop, lone write, commit, abort
-  leaves-begun : (i id : ℕ) {m l : List ℕ} → Leaves (record { answer = 0; op = none; map = m; hold = l; state = withPlace (w .state) i (begun id) })
-  leaves-begun i id = record { shaped = with-place (w .state) h i (begun id) (λ l. begun-shaped id) }
-
   leaves-begin : (id : ℕ) → Leaves (planBegin id w)
-  unfolding planBegin
-  leaves-begin id = leaves-gate false (λ f. search (leaves-cond, leaves-refuse, leaves-begun) depth 9)
+  unfolding planBegin numbered all Unless
+  leaves-begin id = leaves-checks _ (beginChecks id w) refl (λ f i a c d. record { shaped = with-place (w .state) h _ (begun id) (λ l. begun-shaped id) })
 
   -- the state when a page is programmed, and when a write may have programmed one: the same places
   taking-shaped : Shaped (taking w)
@@ -141,25 +135,21 @@ module _ (w : World) (h : Shaped (w .state)) where
       let k = held-shaped (getD (w .state .places) i noPlace) in
       record { shaped = with-place _ (k .0) i _ (λ l. written-shaped _ (nextPage w) lpn drop (at-shaped (w .state .places) i (h .each) (rw (k .1) at l))) }
 
-  leaves-added : (id lpn : ℕ) (drop : Bool) (d : List ℕ) → Leaves (addPlan id lpn drop d w)
-  unfolding addPlan
-  leaves-added id lpn drop d = search (leaves-cond, leaves-refuse, leaves-written) depth 9
-
   leaves-write : (id lpn : ℕ) (d : List ℕ) → Leaves (planWrite id lpn d w)
-  unfolding planWrite
-  leaves-write id lpn d = leaves-gate false (λ f. search (leaves-cond, leaves-refuse, leaves-added))
+  unfolding planWrite numbered all Unless
+  leaves-write id lpn d = leaves-checks _ (writeChecks id lpn d w) refl (λ f i a b c e g. leaves-written _ lpn false d)
 
   leaves-drop : (id lpn : ℕ) → Leaves (planDrop id lpn w)
-  unfolding planDrop
-  leaves-drop id lpn = leaves-gate false (λ f. leaves-added id lpn true gone)
+  unfolding planDrop leaveOut those numbered all Unless
+  leaves-drop id lpn = leaves-checks _ (dropChecks id lpn w) refl (λ f i b c e g. leaves-written _ lpn true gone)
 
   leaves-page : (lpn : ℕ) (d : List ℕ) → Leaves (lonePlan lpn d w)
   unfolding lonePlan
   leaves-page lpn d = record { shaped = with-version _ taking-shaped _ }
 
   leaves-lone : (lpn : ℕ) (d : List ℕ) → Leaves (planLone lpn d w)
-  unfolding planLone
-  leaves-lone lpn d = leaves-gate false (λ f. search (leaves-cond, leaves-refuse, leaves-page) depth 9)
+  unfolding planLone numbered all Unless
+  leaves-lone lpn d = leaves-checks _ (loneChecks lpn d w) refl (λ f i a b c e. leaves-page lpn d)
 
   leaves-forget : (i : ℕ) → Leaves (forgetPlan i w)
   unfolding forgetPlan
@@ -170,12 +160,12 @@ module _ (w : World) (h : Shaped (w .state)) where
   leaves-mark i p = record { shaped = with-place _ (with-version _ taking-shaped _) i freePlace (λ l. free-shaped) }
 
   leaves-commit : (id : ℕ) → Leaves (planCommit id w)
-  unfolding planCommit
-  leaves-commit id = leaves-gate false (λ f. search (leaves-cond, leaves-refuse, leaves-forget, leaves-mark) depth 9)
+  unfolding planCommit numbered all Unless
+  leaves-commit id = leaves-checks _ (commitChecks id w) refl (λ f i a b c. leaves-cond (holds id w) (leaves-mark _ _) (leaves-forget _))
 
   leaves-abort : (id : ℕ) → Leaves (planAbort id w)
-  unfolding planAbort
-  leaves-abort id = leaves-gate false (λ f. search (leaves-cond, leaves-refuse, leaves-forget))
+  unfolding planAbort numbered all Unless
+  leaves-abort id = leaves-checks _ (abortChecks id w) refl (λ f i a. leaves-forget _)
 
   -- ---- checkpoint and reclaim, where refusal 1 passes the zones
   leaves-map : (q i : ℕ) → Leaves (mapStride q i w)
@@ -212,35 +202,32 @@ module _ (w : World) (h : Shaped (w .state)) where
     leaves-stride (Checkpoint k) = leaves-checkpointed _ k
     leaves-stride Reclaim = leaves-refuse 17
 
-    module _ (b : ℕ) (p : Picked (w .state .zones) (w .map) (w .state .geometry .pages) 2 (2 + (w .state .geometry .blocks - 2)) (at b)) where
-      leaves-freed : Leaves (freeStride b w)
-      unfolding freeStride
-      leaves-freed =
-          let k = frame-in w f in
-          record {
-            shaped = with-zones _ (with-work (w .state) h _ _ _) _ (freed-shaped (w .state .geometry) (w .state .zones) (w .map) b (k .geometry) (k .zones) p);
-          }
+    leaves-freed : (b : ℕ) → Picked (w .state .zones) (w .map) (w .state .geometry .pages) 2 (2 + (w .state .geometry .blocks - 2)) (at b)
+        → Leaves (freeStride b w)
+    unfolding freeStride
+    leaves-freed b p =
+        let k = frame-in w f in
+        record {
+          shaped = with-zones _ (with-work (w .state) h _ _ _) _ (freed-shaped (w .state .geometry) (w .state .zones) (w .map) b (k .geometry) (k .zones) p);
+        }
 
-      leaves-block : Leaves (reclaimStride w (at b))
-      unfolding reclaimStride
-      leaves-block = search (leaves-cond, leaves-refuse, leaves-freed, leaves-copy) depth 9
-
-    leaves-pick : (r : Found) → Picked (w .state .zones) (w .map) (w .state .geometry .pages) 2 (2 + (w .state .geometry .blocks - 2)) r
-        → Leaves (reclaimStride w r)
-    unfolding reclaimStride
-    leaves-pick nothing p = leaves-refuse 15
-    leaves-pick (at b) p = leaves-block b p
+    -- the block that is taken was picked
+    leaves-taken : noGain w .when ≡ false → Leaves (reclaimStride w)
+    unfolding reclaimStride picked
+    leaves-taken gain =
+        let r = picked-is (w .state .zones) (w .map) (w .state .geometry .pages) 2 (w .state .geometry .blocks - 2) in
+        let e = found-at (picked w) (or-false-left (isNothing (picked w)) _ gain) in
+        leaves-cond (eqb (copiesDue w) 0)
+        (leaves-freed (blockTaken w) (subst (Picked (w .state .zones) (w .map) (w .state .geometry .pages) 2 (2 + (w .state .geometry .blocks - 2))) e r))
+        (leaves-copy _)
 
   leaves-checkpoint : Leaves (planCheckpoint w)
-  unfolding planCheckpoint
-  leaves-checkpoint =
-      leaves-gate (isCheckpoint (w .state .work)) (λ f. leaves-cond (spent (w .state .checkpoint) 1) (leaves-refuse 13) (leaves-stride f (w .state .work)))
+  unfolding planCheckpoint numbered all Unless
+  leaves-checkpoint = leaves-checks _ (checkpointChecks w) refl (λ f i n. leaves-stride (not-false (frameOk w) f) (w .state .work))
 
   leaves-reclaim : Leaves (planReclaim w)
-  unfolding planReclaim picked
-  leaves-reclaim =
-      leaves-gate (isReclaim (w .state .work))
-      (λ f. leaves-pick f (picked w) (picked-is (w .state .zones) (w .map) (w .state .geometry .pages) 2 (w .state .geometry .blocks - 2)))
+  unfolding planReclaim numbered all Unless
+  leaves-reclaim = leaves-checks _ (reclaimChecks w) refl (λ f i gain n r. leaves-taken (not-false (frameOk w) f) gain)
 
   -- ---- format and recover, with a geometry in range
   leaves-more : (g : Geometry) (k : ℕ) (o : Op) → Leaves (formatMore g k o w)
@@ -263,25 +250,15 @@ module _ (w : World) (h : Shaped (w .state)) where
         let s = fresh-shaped g in
         record { shaped = record { available = z .available; unavailable = z .unavailable; free = z .free; places = s .places; each = s .each } }
 
-    leaves-from : (f : Found) → Leaves (recoverFrom g w f)
-    unfolding recoverFrom
-    leaves-from nothing = leaves-refuse 2
-    leaves-from (at k) = go (loadOk g (entriesAt g (w .array) k) (zonesAt g (w .array) k)) refl
-      where
-        go : (t : Bool) → loadOk g (entriesAt g (w .array) k) (zonesAt g (w .array) k) ≡ t
-            → Leaves (cond (not t) (refuse w 3) (cond (not (pagesGood (g .planes) (g .logical) (scannedAt g (w .array) k))) (refuse w 4) (recoverPlan g k w)))
-        go true e = leaves-cond (not (pagesGood (g .planes) (g .logical) (scannedAt g (w .array) k))) (leaves-refuse 4) (leaves-loaded k e)
-        go false e = leaves-refuse 3
-
   leaves-format : (g : Geometry) → Leaves (planFormat g w)
-  unfolding planFormat
-  leaves-format g =
-      leaves-where (lentOk g w && formatWorkOk g w (w .state .work))
-      (λ e. leaves-next g (lent-geometry g w (and-left (lentOk g w) _ e)) (stridesDone g (w .state) (w .state .work))) (leaves-refuse 1)
+  unfolding planFormat numbered all Unless
+  leaves-format g = leaves-checks _ (formatChecks g w) refl (λ e.
+      leaves-next g (lent-geometry g w (and-left (lentOk g w) _ (not-false _ e))) (stridesDone g (w .state) (w .state .work)))
 
   leaves-recover : (g : Geometry) → Leaves (planRecover g w)
-  unfolding planRecover
-  leaves-recover g = leaves-where (lentOk g w) (λ e. leaves-from g (lent-geometry g w e) (newest (w .array) (mapPages g) (g .pages))) (leaves-refuse 1)
+  unfolding planRecover numbered all Unless
+  leaves-recover g = leaves-checks _ (recoverChecks g w) refl (λ e none load good.
+      leaves-loaded g (lent-geometry g w (not-false (lentOk g w) e)) (pageTaken g w) (not-false _ load))
 
   leaves-plan : (c : Call) → Leaves (plan c w)
   unfolding plan

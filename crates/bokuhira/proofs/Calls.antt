@@ -3,21 +3,19 @@ use mathlib.Core.Path.{_≡_, refl, sym, ap, _∙_}
 use mathlib.Core.Bool.{Bool, true, false, cond, not}
 use mathlib.Core.List.{List}
 use Prim.Native.Nat.{ℕ, _*_, _<_}
-use native.Mathlib.Omega.{arith}
 use lib.ListN.{length, getD}
-use lib.Dec.{eqb, leb}
-use borrow.Author.Tests.{eqb-true, eq-eqb, ne-eqb, leb-false, not-true, not-false}
+use lib.Dec.{eqb}
+use borrow.Author.Tests.{eqb-true, eq-eqb, ne-eqb, not-true, not-false}
 use Rattle.model.specs.Answers.{refused}
 use Rattle.model.specs.Geometry.{unmapped}
-use Rattle.model.specs.Frame.{freshState, gate}
+use Rattle.model.specs.Frame.{freshState}
 use Rattle.model.specs.World.{World}
 use Rattle.model.specs.Transactions.{readAnswer}
 use Rattle.model.specs.Commands.{Call, recover, read, Outcome, plan, carried, exec}
 use Rattle.model.specs.declared.Geometry.{Geometry}
 use Rattle.model.specs.declared.State.{State}
 use Rattle.arrays.specs.Tests.{and-left}
-use Rattle.arrays.specs.Frame.{gate-passes, frame-in}
-use Rattle.reading.proofs.Reading.{getD-same}
+use Rattle.reading.proofs.Reading.{getD-same, part-in-map}
 use Rattle.encoding.specs.Encoding.{encodes, stateFrom, bytesOf}
 use Rattle.bokuhira.specs.Calls.{Result, worldOf, worldFrom, resultOf, badFrame, called, startFrom, sized, started, Found, foundOf, readCalled}
 use Rattle.bokuhira.specs.PowerUp.{blind}
@@ -129,18 +127,8 @@ unfolding readCalled foundOf
 read-refused lpn xs map hold bs at s n r w l e o f h = rw (l, ← answered lpn xs map hold bs s n w e o, ← f, ne-eqb _ _ h)
 
 -- where it is done the map has the page's entry
-passes : (a b c : Bool) → _≡_ {A = ℕ} (cond a (cond b 5 (cond c 14 0)) 1) 0 → (a ≡ true) × (b ≡ false)
-passes true false c e = (refl, refl)
-passes true true c e = absurd (omega arith)
-passes false b c e = absurd (omega arith)
-
 read-within : (lpn : ℕ) (w : World) → readAnswer lpn w ≡ 0 → lpn < length (w .map)
-unfolding readAnswer
-read-within lpn w e =
-    let p = passes (eqb (gate true w) 0) (leb (w .state .geometry .logical) lpn) (eqb (getD (w .map) lpn unmapped) unmapped) e in
-    let l = frame-in w (gate-passes true w (p .0)) .lengths .map in
-    let h = leb-false (w .state .geometry .logical) lpn (p .1) in
-    omega arith
+read-within lpn w e = part-in-map w lpn 0 (sym e) refl
 
 pub mapped : (lpn n r : ℕ) (w v : World) → _≡_ {A = Outcome} (record { answer = n; world = v }) (exec (read lpn) w) → r ≡ n → r ≡ 0 → lpn < length (w .map)
 unfolding exec carried plan

@@ -2,20 +2,22 @@
 -- done, all that the caller has then is the same. Assumes nothing.
 use Prim.Native.Nat.{ℕ}
 use mathlib.Core.Path.{_≡_, refl, ap, sym, _∙_}
-use mathlib.Core.Bool.{Bool, true, false, not, cond}
+use mathlib.Core.Logic.{inl, inr}
+use mathlib.Core.Bool.{true}
 use mathlib.Core.List.{List}
 use lib.ListN.{length}
 use borrow.Author.Tests.{eq-eqb}
+use Rattle.model.specs.Lists.{all}
 use Rattle.model.specs.Answers.{refused}
-use Rattle.model.specs.Geometry.{mapPages}
 use Rattle.model.specs.World.{World, Plan, refuse, applyOp}
+use Rattle.model.specs.Order.{firstOf, checked}
 use Rattle.model.specs.Frame.{lentOk}
-use Rattle.model.specs.Checkpoint.{Found, nothing, at, newest, loadOk}
-use Rattle.model.specs.Recovery.{pagesGood}
-use Rattle.model.specs.Recover.{entriesAt, zonesAt, scannedAt, recoverPlan, recoverFrom, planRecover}
+use Rattle.model.specs.Recover.{recoverPlan, planRecover, pageTaken, recoverChecks}
 use Rattle.model.specs.Commands.{recover, Outcome, plan, carried, exec}
 use Rattle.model.specs.declared.Geometry.{Geometry}
 use Rattle.model.specs.declared.State.{State}
+use Rattle.arrays.specs.Tests.{Is, eqb-cases}
+use Rattle.arrays.specs.Order.{numbered, table-refuses, first-known}
 use Rattle.bokuhira.specs.Calls.{Result, worldOf, resultOf, startFrom, sized, started}
 
 -- ---- a recover with either of two states
@@ -30,10 +32,6 @@ module _ (g : Geometry) (xs map hold bs : List ℕ) (s t : State) where
   record Same (p q : Plan) : Type 0 where
     is : resultOf bs (carried p w) ≡ resultOf bs (carried q v)
 
-  same-cond : (b : Bool) {p q r u : Plan} → Same p q → Same r u → Same (cond b p r) (cond b q u)
-  same-cond true h k = h
-  same-cond false h k = k
-
   -- refusals 1 to 4 keep the bytes; what a recovery makes hangs on the array alone
   same-refuse : (n : ℕ) → refused n ≡ true → Same (refuse w n) (refuse v n)
   unfolding resultOf carried applyOp
@@ -43,16 +41,14 @@ module _ (g : Geometry) (xs map hold bs : List ℕ) (s t : State) where
   unfolding recoverPlan resultOf carried
   same-recover k = record { is = refl }
 
-  same-from : (f : Found) → Same (recoverFrom g w f) (recoverFrom g v f)
-  unfolding recoverFrom refused
-  same-from nothing = same-refuse 2 refl
-  same-from (at k) =
-      same-cond (not (loadOk g (entriesAt g xs k) (zonesAt g xs k))) (same-refuse 3 refl)
-      (same-cond (not (pagesGood (g .planes) (g .logical) (scannedAt g xs k))) (same-refuse 4 refl) (same-recover k))
-
+  -- nor do the checks look at the state
   same-plan : Same (planRecover g w) (planRecover g v)
-  unfolding planRecover lentOk refused
-  same-plan = same-cond (lentOk g w) (same-from (newest xs (mapPages g) (g .pages))) (same-refuse 1 refl)
+  unfolding planRecover lentOk numbered all
+  same-plan = go (eqb-cases (firstOf (recoverChecks g w)) 0)
+    where
+      go : Is (firstOf (recoverChecks g w)) 0 → Same (checked (recoverChecks g w) w (recoverPlan g (pageTaken g w) w)) (checked (recoverChecks g v) v (recoverPlan g (pageTaken g w) v))
+      go (inl q) = rw (q .1) (same-recover (pageTaken g w))
+      go (inr q) = rw (q .1) (same-refuse _ (table-refuses _ (first-known (recoverChecks g w) refl (q .0))))
 
   pub blind : resultOf bs (exec (recover g) w) ≡ resultOf bs (exec (recover g) v)
   unfolding exec plan

@@ -6,18 +6,19 @@ use mathlib.Core.Bool.{Bool, true, false, false≢true, not, cond, _&&_, _||_}
 use mathlib.Core.List.{List}
 use lib.ListN.{length, getD, replicate, length-replicate}
 use lib.Dec.{leb, ltb, eqb}
-use borrow.Author.Tests.{leb-true, le-leb, lt-leb, lt-ltb, eq-eqb}
+use borrow.Author.Tests.{leb-true, le-leb, lt-leb, lt-ltb, le-ltb, eq-eqb, eqb-true}
 use native.Mathlib.Omega.{arith}
-use Rattle.model.specs.Lists.{find}
+use Rattle.model.specs.Lists.{find, those}
 use Rattle.model.specs.Geometry.{unmapped, geometryOk, lengthsOk, mapPages}
 use Rattle.model.specs.Zones.{hasId, usedIn}
 use Rattle.model.specs.Checkpoint.{nothing, at, newest, loadOk}
 use Rattle.model.specs.Recovery.{pagesGood}
 use Rattle.model.specs.World.{World, none, Plan, refuse}
+use Rattle.model.specs.Order.{firstOf, leaveOut}
 use Rattle.model.specs.Frame.{noPlace, badId, lentOk, frameOk, isIdle, gate, freshState}
-use Rattle.model.specs.Transactions.{withPlace, placeOf, zoneShort, cleanPages, spent, begun, liveId, longestChange, writePlan, addPlan, gone, lonePlan, markPlan, forgetPlan, planBegin, planWrite, planDrop, planLone, planCommit, planAbort, readAnswer}
+use Rattle.model.specs.Transactions.{withPlace, placeOf, zoneShort, cleanPages, spent, begun, liveId, longestChange, writePlan, holds, dropChecks, commitChecks, abortChecks, gone, lonePlan, markPlan, forgetPlan, planBegin, planWrite, planDrop, planLone, planCommit, planAbort, readAnswer}
 use Rattle.model.specs.Strides.{isCheckpoint, withWork, withZones, withNumber, mapStride, zoneStride, pageStride, otherStride, firstStride, checkpointStride, planCheckpoint, mappedIn, picked, lowestFrom, isReclaim, copyStride, freeStride, reclaimStride, planReclaim, stridesDone, formatWorkOk, formatMore, formatStride, planFormat}
-use Rattle.model.specs.Recover.{entriesAt, zonesAt, scannedAt, recoverFrom, planRecover}
+use Rattle.model.specs.Recover.{entriesAt, zonesAt, scannedAt, planRecover}
 use Rattle.model.specs.Commands.{format, recover, begin, write, dropPage, lone, commit, abort, read, checkpoint, reclaim, plan}
 use Rattle.model.specs.declared.Geometry.{Geometry}
 use Rattle.model.specs.declared.Place.{Place}
@@ -25,82 +26,86 @@ use Rattle.model.specs.declared.Place.{Place}
 -- ---- 1 first, then 17
 -- whatever is under way, and for every command but format and recover
 pub bad-frame-first : (own : Bool) (w : World) → frameOk w ≡ false → gate own w ≡ 1
-unfolding gate
+unfolding gate firstOf
 bad-frame-first own w f = rw f refl
 
 pub busy-next : (w : World) → frameOk w ≡ true → isIdle (w .state .work) ≡ false → gate false w ≡ 17
-unfolding gate
+unfolding gate firstOf
 busy-next w f i = rw (f, i) refl
 
 -- and is then the answer, as of begin
-pub begin-17 : (w : World) (id : ℕ) → gate false w ≡ 17 → plan (begin id) w ≡ refuse w 17
-unfolding plan planBegin
-begin-17 w id b = rw b refl
+pub begin-17 : (w : World) (id : ℕ) → frameOk w ≡ true → isIdle (w .state .work) ≡ false → plan (begin id) w ≡ refuse w 17
+unfolding plan planBegin firstOf
+begin-17 w id f i = rw (f, i) refl
 
 -- "not for read .. or the command's own next stride"
 pub own-passes : (w : World) → frameOk w ≡ true → gate true w ≡ 0
-unfolding gate
+unfolding gate firstOf
 own-passes w f = rw f (go (isIdle (w .state .work)))
   where
-    go : (t : Bool) → _≡_ {A = ℕ} (cond (t || true) 0 17) 0
+    go : (t : Bool) → _≡_ {A = ℕ} (cond (not (t || true)) 17 0) 0
     go true = refl
     go false = refl
+
+-- what a world has that passes
+passed : (own : Bool) (w : World) → gate own w ≡ 0 → (frameOk w ≡ true) × ((isIdle (w .state .work) || own) ≡ true)
+unfolding gate firstOf
+passed own w z = go (frameOk w) (isIdle (w .state .work) || own) z
+  where
+    go : (f i : Bool) → _≡_ {A = ℕ} (cond (not f) 1 (cond (not i) 17 0)) 0 → (f ≡ true) × (i ≡ true)
+    go true true z = (refl, refl)
+    go true false z = absurd (omega (arith, z))
+    go false i z = absurd (omega (arith, z))
 
 -- ---- drop: "Its other checks are those of a write without 11"
 -- whatever the world, it answers what a write of 512 bytes answers
 pub drop-checks : (w : World) (id lpn : ℕ) (d : List ℕ) → eqb (length d) 512 ≡ true → plan (dropPage id lpn) w .answer ≡ plan (write id lpn d) w .answer
-unfolding plan planDrop planWrite addPlan writePlan
-drop-checks w id lpn d long =
-    let i = placeOf (w .state .places) id in
-    let p = getD (w .state .places) i noPlace in
-    rw long (same (eqb (gate false w) 0) (leb (w .state .geometry .logical) lpn) (leb 8 i) (leb longestChange (p .count)) (not (eqb (p .count) 0) && zoneShort w)
-    (writePlan i p lpn true gone w) (writePlan i p lpn false d w) refl)
+unfolding plan planDrop planWrite leaveOut those firstOf writePlan
+drop-checks w id lpn d long = rw long (same (eqb (firstOf (dropChecks id lpn w)) 0) _ _ _ refl)
   where
-    -- 1 and 17, then 5, 8, 10, 12
-    checked : (t a b c e : Bool) → Plan → Plan
-    checked t a b c e p = cond t (cond a (refuse w 5) (cond b (refuse w 8) (cond c (refuse w 10) (cond e (refuse w 12) p)))) (refuse w (gate false w))
-
-    same : (t a b c e : Bool) (p q : Plan) → p .answer ≡ q .answer → checked t a b c e p .answer ≡ checked t a b c e q .answer
-    same false a b c e p q h = refl
-    same true true b c e p q h = refl
-    same true false true c e p q h = refl
-    same true false false true e p q h = refl
-    same true false false false true p q h = refl
-    same true false false false false p q h = h
+    same : (t : Bool) (p q r : Plan) → p .answer ≡ q .answer → cond t p r .answer ≡ cond t q r .answer
+    same true p q r h = h
+    same false p q r h = refl
 
 -- ---- each command, where 1 and 17 pass
 module _ (w : World) (pass : gate false w ≡ 0) where
+  frame : frameOk w ≡ true
+  frame = passed false w pass .0
+
+  idle : (isIdle (w .state .work) || false) ≡ true
+  idle = passed false w pass .1
+
   -- begin 6, 7, 9
   pub begin-6 : (id : ℕ) → badId id ≡ true → plan (begin id) w ≡ refuse w 6
-  unfolding plan planBegin
-  begin-6 id h = rw (pass, h) refl
+  unfolding plan planBegin firstOf
+  begin-6 id h = rw (frame, idle, h) refl
 
   pub begin-7 : (id : ℕ) → badId id ≡ false → liveId id w ≡ true → plan (begin id) w ≡ refuse w 7
-  unfolding plan planBegin
-  begin-7 id h k = rw (pass, h, k) refl
+  unfolding plan planBegin firstOf
+  begin-7 id h k = rw (frame, idle, h, k) refl
 
   pub begin-9 : (id : ℕ) → badId id ≡ false → liveId id w ≡ false → leb 8 (find (hasId 0) (w .state .places)) ≡ true → plan (begin id) w ≡ refuse w 9
-  unfolding plan planBegin
-  begin-9 id h k f = rw (pass, h, k, f) refl
+  unfolding plan planBegin firstOf
+  begin-9 id h k f = rw (frame, idle, h, k, f) refl
 
   pub begin-done : (id : ℕ) → badId id ≡ false → liveId id w ≡ false → leb 8 (find (hasId 0) (w .state .places)) ≡ false
       → plan (begin id) w ≡ record { answer = 0; op = none; map = w .map; hold = w .hold; state = withPlace (w .state) (find (hasId 0) (w .state .places)) (begun id) }
-  unfolding plan planBegin
-  begin-done id h k f = rw (pass, h, k, f) refl
+  unfolding plan planBegin firstOf
+  begin-done id h k f = rw (frame, idle, h, k, f) refl
 
   -- write 11, 5, 8, 10, 12
   pub write-11 : (id lpn : ℕ) (d : List ℕ) → eqb (length d) 512 ≡ false → plan (write id lpn d) w ≡ refuse w 11
-  unfolding plan planWrite
-  write-11 id lpn d l = rw (pass, l) refl
+  unfolding plan planWrite firstOf
+  write-11 id lpn d l = rw (frame, idle, l) refl
 
   pub write-5 : (id lpn : ℕ) (d : List ℕ) → eqb (length d) 512 ≡ true → leb (w .state .geometry .logical) lpn ≡ true → plan (write id lpn d) w ≡ refuse w 5
-  unfolding plan planWrite addPlan
-  write-5 id lpn d l h = rw (pass, l, h) refl
+  unfolding plan planWrite firstOf
+  write-5 id lpn d l h = rw (frame, idle, l, h) refl
 
   module _ (id lpn : ℕ) (d : List ℕ) (long : eqb (length d) 512 ≡ true) (in-range : leb (w .state .geometry .logical) lpn ≡ false) where
     pub write-8 : leb 8 (placeOf (w .state .places) id) ≡ true → plan (write id lpn d) w ≡ refuse w 8
-    unfolding plan planWrite addPlan
-    write-8 h = rw (pass, long, in-range, h) refl
+    unfolding plan planWrite firstOf
+    write-8 h = rw (frame, idle, long, in-range, h) refl
 
     module _ (open-at : leb 8 (placeOf (w .state .places) id) ≡ false) where
       abbrev place : Place
@@ -108,46 +113,46 @@ module _ (w : World) (pass : gate false w ≡ 0) where
 
       -- 10 from 41 pages on, whatever is clean
       pub write-10 : 41 ≤ place .count → plan (write id lpn d) w ≡ refuse w 10
-      unfolding plan planWrite addPlan
-      write-10 n = rw (pass, long, in-range, open-at, le-leb longestChange (place .count) (omega arith)) refl
+      unfolding plan planWrite firstOf
+      write-10 n = rw (frame, idle, long, in-range, open-at, le-leb longestChange (place .count) (omega arith)) refl
 
       -- a page up to the 41st goes, and 12 is for a place with a held page alone
       pub write-done : place .count < 41 → (not (eqb (place .count) 0) && zoneShort w) ≡ false → plan (write id lpn d) w ≡ writePlan (placeOf (w .state .places) id) place lpn false d w
-      unfolding plan planWrite addPlan
-      write-done n z = rw (pass, long, in-range, open-at, lt-leb longestChange (place .count) (omega arith), z) refl
+      unfolding plan planWrite firstOf
+      write-done n z = rw (frame, idle, long, in-range, open-at, lt-leb longestChange (place .count) (omega arith), z) refl
 
       pub write-12 : place .count < 41 → eqb (place .count) 0 ≡ false → zoneShort w ≡ true → plan (write id lpn d) w ≡ refuse w 12
-      unfolding plan planWrite addPlan
-      write-12 n c z = rw (pass, long, in-range, open-at, lt-leb longestChange (place .count) (omega arith), c, z) refl
+      unfolding plan planWrite firstOf
+      write-12 n c z = rw (frame, idle, long, in-range, open-at, lt-leb longestChange (place .count) (omega arith), c, z) refl
 
       pub write-41st : place .count ≡ 40 → zoneShort w ≡ false → plan (write id lpn d) w .answer ≡ 0
       unfolding writePlan
       write-41st n z = ap (λ (p : Plan). p .answer) (write-done (omega (arith, n)) (rw (n, z) refl))
 
       pub write-first : place .count ≡ 0 → plan (write id lpn d) w .answer ≡ 0
-      unfolding plan planWrite addPlan writePlan
-      write-first n = rw (pass, long, in-range, open-at, n) refl
+      unfolding plan planWrite firstOf writePlan
+      write-first n = rw (frame, idle, long, in-range, open-at, n) refl
 
     -- lone write 11, 5, 13, 12
     pub lone-13 : spent (w .state .version) 1 ≡ true → plan (lone lpn d) w ≡ refuse w 13
-    unfolding plan planLone
-    lone-13 v = rw (pass, long, in-range, v) refl
+    unfolding plan planLone firstOf
+    lone-13 v = rw (frame, idle, long, in-range, v) refl
 
     pub lone-12 : spent (w .state .version) 1 ≡ false → zoneShort w ≡ true → plan (lone lpn d) w ≡ refuse w 12
-    unfolding plan planLone
-    lone-12 v z = rw (pass, long, in-range, v, z) refl
+    unfolding plan planLone firstOf
+    lone-12 v z = rw (frame, idle, long, in-range, v, z) refl
 
     pub lone-done : spent (w .state .version) 1 ≡ false → zoneShort w ≡ false → plan (lone lpn d) w ≡ lonePlan lpn d w
-    unfolding plan planLone
-    lone-done v z = rw (pass, long, in-range, v, z) refl
+    unfolding plan planLone firstOf
+    lone-done v z = rw (frame, idle, long, in-range, v, z) refl
 
   pub lone-11 : (lpn : ℕ) (d : List ℕ) → eqb (length d) 512 ≡ false → plan (lone lpn d) w ≡ refuse w 11
-  unfolding plan planLone
-  lone-11 lpn d l = rw (pass, l) refl
+  unfolding plan planLone firstOf
+  lone-11 lpn d l = rw (frame, idle, l) refl
 
   pub lone-5 : (lpn : ℕ) (d : List ℕ) → eqb (length d) 512 ≡ true → leb (w .state .geometry .logical) lpn ≡ true → plan (lone lpn d) w ≡ refuse w 5
-  unfolding plan planLone
-  lone-5 lpn d l h = rw (pass, l, h) refl
+  unfolding plan planLone firstOf
+  lone-5 lpn d l h = rw (frame, idle, l, h) refl
 
   -- a drop goes where a write does: its page is held, 512 bytes 0xFF, and counted
   module _ (id lpn : ℕ) (in-range : leb (w .state .geometry .logical) lpn ≡ false) (open-at : leb 8 (placeOf (w .state .places) id) ≡ false) where
@@ -156,119 +161,126 @@ module _ (w : World) (pass : gate false w ≡ 0) where
 
     pub drop-done : dropping .count < 41 → (not (eqb (dropping .count) 0) && zoneShort w) ≡ false
         → plan (dropPage id lpn) w ≡ writePlan (placeOf (w .state .places) id) dropping lpn true gone w
-    unfolding plan planDrop addPlan
-    drop-done n z = rw (pass, in-range, open-at, lt-leb longestChange (dropping .count) (omega arith), z) refl
+    unfolding plan planDrop firstOf leaveOut those
+    drop-done n z = rw (frame, idle, in-range, open-at, lt-leb longestChange (dropping .count) (omega arith), z) refl
 
   -- commit 8, 13, 12, "the last two only with a held page"
   pub commit-8 : (id : ℕ) → leb 8 (placeOf (w .state .places) id) ≡ true → plan (commit id) w ≡ refuse w 8
-  unfolding plan planCommit
-  commit-8 id h = rw (pass, h) refl
+  unfolding plan planCommit firstOf
+  commit-8 id h = rw (frame, idle, h) refl
 
   module _ (id : ℕ) (open-at : leb 8 (placeOf (w .state .places) id) ≡ false) where
     abbrev committing : Place
     committing = getD (w .state .places) (placeOf (w .state .places) id) noPlace
 
     pub commit-empty : committing .count ≡ 0 → plan (commit id) w .answer ≡ 0
-    unfolding plan planCommit forgetPlan
-    commit-empty n = rw (pass, open-at, n) refl
+    unfolding plan planCommit firstOf forgetPlan
+    commit-empty n = rw (frame, idle, open-at, n) refl
 
     pub commit-13 : eqb (committing .count) 0 ≡ false → spent (w .state .version) 1 ≡ true → plan (commit id) w ≡ refuse w 13
-    unfolding plan planCommit
-    commit-13 n v = rw (pass, open-at, n, v) refl
+    unfolding plan planCommit firstOf
+    commit-13 n v = rw (frame, idle, open-at, n, v) refl
 
     pub commit-12 : eqb (committing .count) 0 ≡ false → spent (w .state .version) 1 ≡ false → zoneShort w ≡ true → plan (commit id) w ≡ refuse w 12
-    unfolding plan planCommit
-    commit-12 n v z = rw (pass, open-at, n, v, z) refl
+    unfolding plan planCommit firstOf
+    commit-12 n v z = rw (frame, idle, open-at, n, v, z) refl
 
     pub commit-done : eqb (committing .count) 0 ≡ false → spent (w .state .version) 1 ≡ false → zoneShort w ≡ false → plan (commit id) w ≡ markPlan (placeOf (w .state .places) id) committing w
-    unfolding plan planCommit
-    commit-done n v z = rw (pass, open-at, n, v, z) refl
+    unfolding plan planCommit firstOf
+    commit-done n v z = rw (frame, idle, open-at, n, v, z) refl
 
     -- abort 8
     pub abort-done : plan (abort id) w ≡ forgetPlan (placeOf (w .state .places) id) w
-    unfolding plan planAbort
-    abort-done = rw (pass, open-at) refl
+    unfolding plan planAbort firstOf
+    abort-done = rw (frame, idle, open-at) refl
 
 -- read 5, 14
-module _ (w : World) (pass : gate true w ≡ 0) where
+module _ (w : World) (frame : frameOk w ≡ true) where
   pub read-5 : (lpn : ℕ) → leb (w .state .geometry .logical) lpn ≡ true → plan (read lpn) w ≡ refuse w 5
-  unfolding plan readAnswer
-  read-5 lpn h = rw (pass, h) refl
+  unfolding plan readAnswer firstOf
+  read-5 lpn h = rw (frame, h) refl
 
   pub read-14 : (lpn : ℕ) → leb (w .state .geometry .logical) lpn ≡ false → getD (w .map) lpn unmapped ≡ unmapped → plan (read lpn) w ≡ refuse w 14
-  unfolding plan readAnswer
-  read-14 lpn h e = rw (pass, h, e) refl
+  unfolding plan readAnswer firstOf
+  read-14 lpn h e = rw (frame, h, e) refl
 
   pub read-0 : (lpn : ℕ) → leb (w .state .geometry .logical) lpn ≡ false → eqb (getD (w .map) lpn unmapped) unmapped ≡ false → plan (read lpn) w ≡ refuse w 0
-  unfolding plan readAnswer
-  read-0 lpn h e = rw (pass, h, e) refl
+  unfolding plan readAnswer firstOf
+  read-0 lpn h e = rw (frame, h, e) refl
 
 -- ---- checkpoint 13
 module _ (w : World) (pass : gate (isCheckpoint (w .state .work)) w ≡ 0) where
+  own-checkpoint : (frameOk w ≡ true) × ((isIdle (w .state .work) || isCheckpoint (w .state .work)) ≡ true)
+  own-checkpoint = passed (isCheckpoint (w .state .work)) w pass
+
   pub checkpoint-13 : spent (w .state .checkpoint) 1 ≡ true → plan checkpoint w ≡ refuse w 13
-  unfolding plan planCheckpoint
-  checkpoint-13 n = rw (pass, n) refl
+  unfolding plan planCheckpoint firstOf
+  checkpoint-13 n = rw (own-checkpoint .0, own-checkpoint .1, n) refl
 
   pub checkpoint-done : spent (w .state .checkpoint) 1 ≡ false → plan checkpoint w ≡ checkpointStride w (w .state .work)
-  unfolding plan planCheckpoint
-  checkpoint-done n = rw (pass, n) refl
+  unfolding plan planCheckpoint firstOf
+  checkpoint-done n = rw (own-checkpoint .0, own-checkpoint .1, n) refl
 
--- ---- reclaim 15, 13, 16, the block b being picked
-pub reclaim-none : (w : World) → reclaimStride w nothing ≡ refuse w 15
-unfolding reclaimStride
-reclaim-none w = refl
+-- ---- reclaim 15, 13, 16
+module _ (w : World) (pass : gate (isReclaim (w .state .work)) w ≡ 0) where
+  own-reclaim : (frameOk w ≡ true) × ((isIdle (w .state .work) || isReclaim (w .state .work)) ≡ true)
+  own-reclaim = passed (isReclaim (w .state .work)) w pass
 
-module _ (w : World) (b : ℕ) where
-  abbrev due : ℕ
-  due = mappedIn (w .map) (w .state .geometry .pages) b
+  pub reclaim-none : picked w ≡ nothing → plan reclaim w ≡ refuse w 15
+  unfolding plan planReclaim firstOf
+  reclaim-none p = rw (own-reclaim .0, own-reclaim .1, p) refl
 
-  -- no copy is due: the block is erased, whatever else
-  pub reclaim-frees : leb (w .state .geometry .pages) due ≡ false → eqb due 0 ≡ true → reclaimStride w (at b) ≡ freeStride b w
-  unfolding reclaimStride
-  reclaim-frees h e = rw (h, e) refl
+  -- the block b being picked
+  module _ (b : ℕ) (pick : picked w ≡ at b) where
+    abbrev due : ℕ
+    due = mappedIn (w .map) (w .state .geometry .pages) b
 
-  pub reclaim-15 : leb (w .state .geometry .pages) due ≡ true → reclaimStride w (at b) ≡ refuse w 15
-  unfolding reclaimStride
-  reclaim-15 h = rw h refl
+    pub reclaim-15 : leb (w .state .geometry .pages) due ≡ true → plan reclaim w ≡ refuse w 15
+    unfolding plan planReclaim firstOf
+    reclaim-15 h = rw (own-reclaim .0, own-reclaim .1, pick, h) refl
 
-  module _ (some : leb (w .state .geometry .pages) due ≡ false) (copies : eqb due 0 ≡ false) where
-    pub reclaim-13 : spent (w .state .version) due ≡ true → reclaimStride w (at b) ≡ refuse w 13
-    unfolding reclaimStride
-    reclaim-13 v = rw (some, copies, v) refl
+    module _ (some : leb (w .state .geometry .pages) due ≡ false) where
+      -- no copy is due: the block is erased, whatever else
+      pub reclaim-frees : eqb due 0 ≡ true → plan reclaim w ≡ freeStride b w
+      unfolding plan planReclaim reclaimStride firstOf
+      reclaim-frees e = rw (own-reclaim .0, own-reclaim .1, pick, some, e, none-due) refl
+        where
+          none-due : ltb (cleanPages w) due ≡ false
+          none-due = rw (eqb-true due 0 e) (le-ltb (cleanPages w) 0 (omega arith))
 
-    pub reclaim-16 : spent (w .state .version) due ≡ false → ltb (cleanPages w) due ≡ true → reclaimStride w (at b) ≡ refuse w 16
-    unfolding reclaimStride
-    reclaim-16 v c = rw (some, copies, v, c) refl
+      module _ (copies : eqb due 0 ≡ false) where
+        pub reclaim-13 : spent (w .state .version) due ≡ true → plan reclaim w ≡ refuse w 13
+        unfolding plan planReclaim firstOf
+        reclaim-13 v = rw (own-reclaim .0, own-reclaim .1, pick, some, copies, v) refl
 
-    pub reclaim-done : spent (w .state .version) due ≡ false → ltb (cleanPages w) due ≡ false → reclaimStride w (at b) ≡ copyStride (lowestFrom (w .map) (b * w .state .geometry .pages) (w .state .geometry .pages)) w
-    unfolding reclaimStride
-    reclaim-done v c = rw (some, copies, v, c) refl
+        pub reclaim-16 : spent (w .state .version) due ≡ false → ltb (cleanPages w) due ≡ true → plan reclaim w ≡ refuse w 16
+        unfolding plan planReclaim firstOf
+        reclaim-16 v c = rw (own-reclaim .0, own-reclaim .1, pick, some, copies, v, c) refl
 
--- the stride that a call does, where 1 and 17 pass
-pub reclaim-strides : (w : World) → gate (isReclaim (w .state .work)) w ≡ 0 → plan reclaim w ≡ reclaimStride w (picked w)
-unfolding plan planReclaim
-reclaim-strides w pass = rw pass refl
+        pub reclaim-done : spent (w .state .version) due ≡ false → ltb (cleanPages w) due ≡ false → plan reclaim w ≡ copyStride (lowestFrom (w .map) (b * w .state .geometry .pages) (w .state .geometry .pages)) w
+        unfolding plan planReclaim reclaimStride firstOf
+        reclaim-done v c = rw (own-reclaim .0, own-reclaim .1, pick, some, copies, v, c) refl
 
 -- ---- recover 1, 2, 3, 4, and format 1
 pub recover-1 : (g : Geometry) (w : World) → lentOk g w ≡ false → plan (recover g) w ≡ refuse w 1
-unfolding plan planRecover
+unfolding plan planRecover firstOf
 recover-1 g w e = rw e refl
 
 pub recover-2 : (g : Geometry) (w : World) → lentOk g w ≡ true → newest (w .array) (mapPages g) (g .pages) ≡ nothing → plan (recover g) w ≡ refuse w 2
-unfolding plan planRecover recoverFrom
+unfolding plan planRecover firstOf
 recover-2 g w e n = rw (e, n) refl
 
 module _ (g : Geometry) (w : World) (k : ℕ) (len : lentOk g w ≡ true) (found : newest (w .array) (mapPages g) (g .pages) ≡ at k) where
   pub recover-3 : loadOk g (entriesAt g (w .array) k) (zonesAt g (w .array) k) ≡ false → plan (recover g) w ≡ refuse w 3
-  unfolding plan planRecover recoverFrom
+  unfolding plan planRecover firstOf
   recover-3 o = rw (len, found, o) refl
 
   pub recover-4 : loadOk g (entriesAt g (w .array) k) (zonesAt g (w .array) k) ≡ true → pagesGood (g .planes) (g .logical) (scannedAt g (w .array) k) ≡ false → plan (recover g) w ≡ refuse w 4
-  unfolding plan planRecover recoverFrom
+  unfolding plan planRecover firstOf
   recover-4 o p = rw (len, found, o, p) refl
 
 pub format-1 : (g : Geometry) (w : World) → lentOk g w ≡ false → plan (format g) w ≡ refuse w 1
-unfolding plan planFormat
+unfolding plan planFormat firstOf
 format-1 g w e = rw e refl
 
 -- ---- 13: "a number above 0xFFFFFFFE would be needed", not before
@@ -285,18 +297,11 @@ either-hold h false p q x y = y
 
 pub commit-hold : (id : ℕ) (w : World) → plan (commit id) w .hold ≡ w .hold
 unfolding plan planCommit forgetPlan markPlan
-commit-hold id w =
-    either-hold _ (eqb (gate false w) 0) _ _
-    (either-hold _ (leb 8 (placeOf (w .state .places) id)) _ _ refl
-    (either-hold _ (eqb (getD (w .state .places) (placeOf (w .state .places) id) noPlace .count) 0) _ _ refl
-    (either-hold _ (spent (w .state .version) 1) _ _ refl
-    (either-hold _ (zoneShort w) _ _ refl refl)))) refl
+commit-hold id w = either-hold _ (eqb (firstOf (commitChecks id w)) 0) _ _ (either-hold _ (holds id w) _ _ refl refl) refl
 
 pub abort-hold : (id : ℕ) (w : World) → plan (abort id) w .hold ≡ w .hold
 unfolding plan planAbort forgetPlan
-abort-hold id w =
-    either-hold _ (eqb (gate false w) 0) _ _
-    (either-hold _ (leb 8 (placeOf (w .state .places) id)) _ _ refl refl) refl
+abort-hold id w = either-hold _ (eqb (firstOf (abortChecks id w)) 0) _ _ refl refl
 
 -- ---- the front block: "otherwise the other front block is erased first and becomes current in that stride", in no other
 pub page-keeps-front : (q i : ℕ) (w : World) → pageStride q i w .state .front ≡ w .state .front
@@ -340,9 +345,9 @@ some-blocks g ok = lt-ltb 0 (g .blocks) (go (leb 8 (g .blocks)) _ refl ok)
 
 -- its first stride answers 1 where the geometry is out of range, and more where it is not
 pub format-answers : (g : Geometry) → plan (format g) (lent g) .answer ≡ cond (geometryOk g) 255 1
-unfolding plan planFormat lentOk
+unfolding plan planFormat firstOf lentOk
 format-answers g = go (geometryOk g) refl
   where
-    go : (t : Bool) → geometryOk g ≡ t → cond ((geometryOk g && lengthsOk g (lent g .array) (lent g .map) (lent g .hold)) && formatWorkOk g (lent g) (lent g .state .work)) (formatStride g (stridesDone g (lent g .state) (lent g .state .work)) (lent g)) (refuse (lent g) 1) .answer ≡ cond t 255 1
+    go : (t : Bool) → geometryOk g ≡ t → plan (format g) (lent g) .answer ≡ cond t 255 1
     go true e = rw (e, fits-lent g) (unfold lent freshState formatWorkOk stridesDone formatStride formatMore in rw (some-blocks g e) refl)
     go false e = rw e refl

@@ -1,16 +1,15 @@
 // Refusals 1 and 17: whether a state may be, with the buffers lent beside it, and whether another command's work is under way.
 ghost use mathlib.Core.Path.{_≡_};
-ghost use mathlib.Core.Bool.{true, cond};
+ghost use mathlib.Core.Bool.{true};
 ghost use Prim.Native.Nat.{ℕ, _+_, _-_, _*_, _≤_, _<_};
 ghost use lib.ListN.{take, drop, getD};
-ghost use lib.Dec.{eqb, ltb};
+ghost use lib.Dec.{ltb};
 ghost use Rattle.model.specs.Answers.{number};
 ghost use Rattle.model.specs.Lists.{all};
 ghost use Rattle.model.specs.Geometry.{geometryOk, dataPage};
 ghost use Rattle.model.specs.Frame.{mostPages, placeOk, placesOk, formatStrideOk, checkpointStrideOk, workOk, frameOk, isIdle, gate};
 ghost use Rattle.frame.specs.Lent.{Sized};
 ghost use Rattle.frame.specs.Ids.{idAlone};
-use model::Answer;
 use model::Geometry;
 use model::Place;
 use model::Refusal;
@@ -238,7 +237,7 @@ pub fn gate(own: bool, s: State, array: &[u8], map: &[u16], hold: &[u8]) -> u8
     ensures { λ r. ⌜ r ≡ gate own (record { array = now (array .entry); map = now (map .entry); hold = now (hold .entry); state = s }) ⌝ }
 {
     if !frame_ok(s, array, map, hold) {
-        return 1;
+        return Refusal::BAD_FRAME;
     }
     if own {
         return 0;
@@ -247,15 +246,5 @@ pub fn gate(own: bool, s: State, array: &[u8], map: &[u16], hold: &[u8]) -> u8
     if is_idle(w) {
         return 0;
     }
-    17
-}
-
-/// The answer that refuses with number 1 or 17.
-pub fn stopped(n: u8) -> Answer
-    ensures { λ r. ⌜ number r ≡ cond (eqb n 17) 17 1 ⌝ }
-{
-    if n == 17 {
-        return Answer::Refused(Refusal::Busy);
-    }
-    Answer::Refused(Refusal::BadFrame)
+    Refusal::BUSY
 }

@@ -1,27 +1,33 @@
--- The commands of an open change: begin, write, drop, lone write, commit, abort, read. Each says what it plans on what it is handed.
+-- The commands of an open change: begin, write, drop, lone write, commit, abort, read. Each has its checks in the order of document 01's
+-- paragraph "Order", and says what it plans on what it is handed where none of them applies.
 use Prim.Native.Nat.{ℕ, zero, suc, _+_, _-_, _*_, _/_}
 use mathlib.Core.Bool.{Bool, true, false, not, cond, _&&_, _||_}
-use mathlib.Core.List.{List, []}
+use mathlib.Core.List.{List, [], _∷_}
 use lib.ListN.{length, getD, set, replicate}
 use lib.Dec.{leb, ltb, eqb}
 use Rattle.model.specs.Lists.{find, part, splice}
 use Rattle.model.specs.Page.{pageBytes, dataAt}
 use Rattle.model.specs.Geometry.{unmapped, enterPage, leads}
 use Rattle.model.specs.Zones.{availableOf, cleanIn, nextIn, planeOf, takenFrom, scanOf, onPages, hasId, active}
-use Rattle.model.specs.World.{World, Op, none, program, Plan, refuse}
-use Rattle.model.specs.Frame.{noPlace, freePlace, badId, gate}
+use Rattle.model.specs.World.{World, Op, none, program, Plan}
+use Rattle.model.specs.Order.{Check, firstOf, leaveOut, checked}
+use Rattle.model.specs.Frame.{noPlace, freePlace, badId, badFrame, busy}
 use Rattle.model.specs.declared.Geometry.{Geometry}
 use Rattle.model.specs.declared.Place.{Place}
 use Rattle.model.specs.declared.State.{State}
-
--- go on with p where the number is 0
-abbrev pub unless : ℕ → World → Plan → Plan
-unless n w p = cond (eqb n 0) p (refuse w n)
 
 -- ---- places
 -- the place of an active identifier, or 8
 unfoldable pub placeOf : List Place → ℕ → ℕ
 placeOf ps id = cond (eqb id 0) 8 (find (hasId id) ps)
+
+-- the place of a change that was begun
+abbrev pub placeWith : ℕ → World → Place
+placeWith id w = getD (w .state .places) (placeOf (w .state .places) id) noPlace
+
+-- "with a held page"
+abbrev pub holds : ℕ → World → Bool
+holds id w = not (eqb (placeWith id w .count) 0)
 
 -- the state with another place i
 unfoldable pub withPlace : State → ℕ → Place → State
@@ -81,14 +87,63 @@ nextPage w =
 abbrev pub taking : World → State
 taking w = withLast (w .state) (nextPage w / w .state .geometry .pages)
 
--- 12: "a page must be programmed and clean available pages ≤ P"
+-- "clean available pages ≤ P"
 abbrev pub zoneShort : World → Bool
 zoneShort w = leb (cleanPages w) (w .state .geometry .pages)
 
--- 13: "a number above 0xFFFFFFFE would be needed", n numbers after v
+-- "a number above 0xFFFFFFFE", n numbers after v
 abbrev pub spent : ℕ → ℕ → Bool
 spent v n = ltb 4294967294 (v + n)
 
+-- ---- the checks, by number
+-- 5: "LPN ≥ L"
+abbrev pub badLogicalPage : ℕ → World → Check
+badLogicalPage lpn w = record { number = 5; when = leb (w .state .geometry .logical) lpn }
+
+-- 6: "0 or 0xFFFFFFFF"
+abbrev pub badIdentifier : ℕ → Check
+badIdentifier id = record { number = 6; when = badId id }
+
+-- 7: "active, or on a whole page in scan order"
+unfoldable pub liveId : ℕ → World → Bool
+liveId id w = active id (w .state .places) || onPages id (scanOf (w .array) (w .state .geometry .pages) (w .state .zones))
+
+abbrev pub identifierLive : ℕ → World → Check
+identifierLive id w = record { number = 7; when = liveId id w }
+
+-- 8: "no active transaction of that TxID"
+abbrev pub notBegun : ℕ → World → Check
+notBegun id w = record { number = 8; when = leb 8 (placeOf (w .state .places) id) }
+
+-- 9: "eight active"
+abbrev pub placesFull : World → Check
+placesFull w = record { number = 9; when = leb 8 (find (hasId 0) (w .state .places)) }
+
+-- the longest change: "the 41st page goes, the 42nd answers 10"; a place has room for 64
+abbrev pub longestChange : ℕ
+longestChange = 41
+
+-- 10
+abbrev pub tooLong : ℕ → World → Check
+tooLong id w = record { number = 10; when = leb longestChange (placeWith id w .count) }
+
+-- 11: "data not 512 bytes"
+abbrev pub badLength : List ℕ → Check
+badLength d = record { number = 11; when = not (eqb (length d) 512) }
+
+-- 12: "a page must be programmed and clean available pages ≤ P"
+abbrev pub shortZone : Bool → World → Check
+shortZone programs w = record { number = 12; when = programs && zoneShort w }
+
+-- 13: "a number above 0xFFFFFFFE would be needed", n numbers after v
+abbrev pub versionsSpent : Bool → ℕ → ℕ → Check
+versionsSpent needed v n = record { number = 13; when = needed && spent v n }
+
+-- 14: "unmapped"
+abbrev pub neverWritten : ℕ → World → Check
+neverWritten lpn w = record { number = 14; when = eqb (getD (w .map) lpn unmapped) unmapped }
+
+-- ---- pages
 -- Reserved of the n-th page of a transaction: "the write number within the transaction" on two planes, else 0
 unfoldable pub numberOf : Geometry → ℕ → ℕ
 numberOf g n = cond (eqb (g .planes) 2) n 0
@@ -121,30 +176,30 @@ heldPage p = getD (p .lpns) (p .count - 1) 0
 abbrev pub heldDrop : Place → Bool
 heldDrop p = getD (p .drops) (p .count - 1) false
 
--- ---- begin: 6, 7, 9; it "takes the lowest free one, counted from 0"
+-- ---- begin: it "takes the lowest free one, counted from 0"
 unfoldable pub begun : ℕ → Place
 begun id = record { id = id; count = 0; lpns = replicate 64 0; ppns = replicate 64 0; drops = replicate 64 false }
 
--- 7: "active, or on a whole page in scan order"
-unfoldable pub liveId : ℕ → World → Bool
-liveId id w = active id (w .state .places) || onPages id (scanOf (w .array) (w .state .geometry .pages) (w .state .zones))
+-- "Begin 6, 7, 9"
+abbrev pub beginChecks : ℕ → World → List Check
+beginChecks id w = badFrame w ∷ busy false w ∷ badIdentifier id ∷ identifierLive id w ∷ placesFull w ∷ []
+
+-- what a begin does
+abbrev pub beginPlan : ℕ → World → Plan
+beginPlan id w =
+    record {
+      answer = 0;
+      op = none;
+      map = w .map;
+      hold = w .hold;
+      state = withPlace (w .state) (find (hasId 0) (w .state .places)) (begun id);
+    }
 
 -- begin
 unfoldable pub planBegin : ℕ → World → Plan
-planBegin id w =
-    let s = w .state in
-    let free = find (hasId 0) (s .places) in
-    unless (gate false w) w
-    (cond (badId id) (refuse w 6)
-    (cond (liveId id w) (refuse w 7)
-    (cond (leb 8 free) (refuse w 9)
-    (record { answer = 0; op = none; map = w .map; hold = w .hold; state = withPlace s free (begun id) }))))
+planBegin id w = checked (beginChecks id w) w (beginPlan id w)
 
--- ---- write: 11, 5, 8, 10, 12
--- the longest change: "the 41st page goes, the 42nd answers 10"; a place has room for 64
-abbrev pub longestChange : ℕ
-longestChange = 41
-
+-- ---- write
 -- the place with one more page, held, the one held before being programmed on page k
 unfoldable pub written : Place → ℕ → ℕ → Bool → Place
 written p k lpn drop =
@@ -177,30 +232,32 @@ writePlan i p lpn drop d w =
       state = withPlace (heldState w p) i (written p (nextPage w) lpn drop);
     }
 
--- one page more in a change: 5, 8, 10, 12
-unfoldable pub addPlan : ℕ → ℕ → Bool → List ℕ → World → Plan
-addPlan id lpn drop d w =
-    let s = w .state in
-    let i = placeOf (s .places) id in
-    let p = getD (s .places) i noPlace in
-    cond (leb (s .geometry .logical) lpn) (refuse w 5)
-    (cond (leb 8 i) (refuse w 8)
-    (cond (leb longestChange (p .count)) (refuse w 10)
-    (cond (not (eqb (p .count) 0) && zoneShort w) (refuse w 12)
-    (writePlan i p lpn drop d w))))
+-- the same in the place of a change
+abbrev pub addPlan : ℕ → ℕ → Bool → List ℕ → World → Plan
+addPlan id lpn drop d w = writePlan (placeOf (w .state .places) id) (placeWith id w) lpn drop d w
+
+-- "Write 11, 5, 8, 10, 12"
+abbrev pub writeChecks : ℕ → ℕ → List ℕ → World → List Check
+writeChecks id lpn d w =
+    badFrame w ∷ busy false w ∷ badLength d ∷ badLogicalPage lpn w ∷ notBegun id w ∷ tooLong id w ∷ shortZone (holds id w) w ∷ []
 
 -- write
 unfoldable pub planWrite : ℕ → ℕ → List ℕ → World → Plan
-planWrite id lpn d w = unless (gate false w) w (cond (not (eqb (length d) 512)) (refuse w 11) (addPlan id lpn false d w))
+planWrite id lpn d w = checked (writeChecks id lpn d w) w (addPlan id lpn false d w)
 
--- ---- drop: "Its other checks are those of a write without 11"; "data all 0xFF, counted and held like any other"
+-- ---- drop: "data all 0xFF, counted and held like any other"
 unfoldable pub gone : List ℕ
 gone = replicate 512 255
 
-unfoldable pub planDrop : ℕ → ℕ → World → Plan
-planDrop id lpn w = unless (gate false w) w (addPlan id lpn true gone w)
+-- "Its other checks are those of a write without 11"
+abbrev pub dropChecks : ℕ → ℕ → World → List Check
+dropChecks id lpn w = leaveOut 11 (writeChecks id lpn gone w)
 
--- ---- lone write: 11, 5, 13, 12; "TxID 0, TxCnt 1, next TxVer"
+-- drop
+unfoldable pub planDrop : ℕ → ℕ → World → Plan
+planDrop id lpn w = checked (dropChecks id lpn w) w (addPlan id lpn true gone w)
+
+-- ---- lone write: "TxID 0, TxCnt 1, next TxVer"
 -- programming d as the only page of its transaction, and the map and version that follow
 abbrev pub loneOp : ℕ → List ℕ → World → Op
 loneOp lpn d w = program (nextPage w) (dataBytes d lpn 1 0 (w .state .version + 1))
@@ -220,18 +277,16 @@ lonePlan lpn d w =
       state = withVersion (taking w) (w .state .version + 1);
     }
 
+-- "Lone write 11, 5, 13, 12"
+abbrev pub loneChecks : ℕ → List ℕ → World → List Check
+loneChecks lpn d w =
+    badFrame w ∷ busy false w ∷ badLength d ∷ badLogicalPage lpn w ∷ versionsSpent true (w .state .version) 1 ∷ shortZone true w ∷ []
+
 -- lone write
 unfoldable pub planLone : ℕ → List ℕ → World → Plan
-planLone lpn d w =
-    let s = w .state in
-    unless (gate false w) w
-    (cond (not (eqb (length d) 512)) (refuse w 11)
-    (cond (leb (s .geometry .logical) lpn) (refuse w 5)
-    (cond (spent (s .version) 1) (refuse w 13)
-    (cond (zoneShort w) (refuse w 12)
-    (lonePlan lpn d w)))))
+planLone lpn d w = checked (loneChecks lpn d w) w (lonePlan lpn d w)
 
--- ---- commit: 8; 13, 12 "only with a held page"
+-- ---- commit
 -- the map with the first n pages of a place entered "in write order"
 unfoldable pub entered : List ℕ → List ℕ → List ℕ → List Bool → ℕ → List ℕ
 entered map lpns ppns drops zero = map
@@ -254,34 +309,36 @@ markPlan i p w =
 unfoldable pub forgetPlan : ℕ → World → Plan
 forgetPlan i w = record { answer = 0; op = none; map = w .map; hold = w .hold; state = withPlace (w .state) i freePlace }
 
+-- "Commit 8, 13, 12, the last two only with a held page"
+abbrev pub commitChecks : ℕ → World → List Check
+commitChecks id w =
+    badFrame w ∷ busy false w ∷ notBegun id w ∷ versionsSpent (holds id w) (w .state .version) 1 ∷ shortZone (holds id w) w ∷ []
+
+-- what a commit does
+abbrev pub commitPlan : ℕ → World → Plan
+commitPlan id w =
+    let i = placeOf (w .state .places) id in
+    cond (holds id w) (markPlan i (placeWith id w) w) (forgetPlan i w)
+
 -- commit
 unfoldable pub planCommit : ℕ → World → Plan
-planCommit id w =
-    let s = w .state in
-    let i = placeOf (s .places) id in
-    let p = getD (s .places) i noPlace in
-    unless (gate false w) w
-    (cond (leb 8 i) (refuse w 8)
-    (cond (eqb (p .count) 0) (forgetPlan i w)
-    (cond (spent (s .version) 1) (refuse w 13)
-    (cond (zoneShort w) (refuse w 12)
-    (markPlan i p w)))))
+planCommit id w = checked (commitChecks id w) w (commitPlan id w)
 
--- ---- abort: 8
+-- ---- abort: "Abort 8"
+abbrev pub abortChecks : ℕ → World → List Check
+abortChecks id w = badFrame w ∷ busy false w ∷ notBegun id w ∷ []
+
+-- abort
 unfoldable pub planAbort : ℕ → World → Plan
-planAbort id w =
-    let i = placeOf (w .state .places) id in
-    unless (gate false w) w
-    (cond (leb 8 i) (refuse w 8)
-    (forgetPlan i w))
+planAbort id w = checked (abortChecks id w) w (forgetPlan (placeOf (w .state .places) id) w)
 
--- ---- read: 5, 14; it is never busy, and changes nothing
+-- ---- read: "Read 5, 14"; it is never busy, and changes nothing
+abbrev pub readChecks : ℕ → World → List Check
+readChecks lpn w = badFrame w ∷ badLogicalPage lpn w ∷ neverWritten lpn w ∷ []
+
+-- what it answers
 unfoldable pub readAnswer : ℕ → World → ℕ
-readAnswer lpn w =
-    cond (eqb (gate true w) 0)
-    (cond (leb (w .state .geometry .logical) lpn) 5
-    (cond (eqb (getD (w .map) lpn unmapped) unmapped) 14 0))
-    1
+readAnswer lpn w = firstOf (readChecks lpn w)
 
 -- "the 512 bytes of the mapped page as they stand in the array", "empty where refused"
 unfoldable pub readPart : ℕ → World → List ℕ

@@ -174,6 +174,43 @@ pub enum Refusal {
     Busy,
 }
 
+/// Their numbers in the table.
+impl Refusal {
+    pub const BAD_FRAME: u8 = 1;
+
+    pub const NO_CHECKPOINT: u8 = 2;
+
+    pub const BAD_CHECKPOINT: u8 = 3;
+
+    pub const BAD_PAGE: u8 = 4;
+
+    pub const BAD_LOGICAL_PAGE: u8 = 5;
+
+    pub const BAD_IDENTIFIER: u8 = 6;
+
+    pub const IDENTIFIER_LIVE: u8 = 7;
+
+    pub const NOT_BEGUN: u8 = 8;
+
+    pub const PLACES_FULL: u8 = 9;
+
+    pub const TOO_LONG: u8 = 10;
+
+    pub const BAD_LENGTH: u8 = 11;
+
+    pub const ZONE_SHORT: u8 = 12;
+
+    pub const VERSIONS_SPENT: u8 = 13;
+
+    pub const NEVER_WRITTEN: u8 = 14;
+
+    pub const NO_GAIN: u8 = 15;
+
+    pub const RESERVE_SHORT: u8 = 16;
+
+    pub const BUSY: u8 = 17;
+}
+
 pub enum Answer {
     Done,
     More,

@@ -3,7 +3,7 @@ ghost use mathlib.Core.Path.{_≡_};
 ghost use Prim.Native.Nat.{_+_, _<_};
 ghost use Rattle.model.specs.Lists.{find};
 ghost use Rattle.model.specs.Zones.{hasId, active, planeOf};
-ghost use Rattle.model.specs.Frame.{badId};
+ghost use Rattle.model.specs.Frame.{freePlace, badId};
 ghost use Rattle.model.specs.Transactions.{placeOf, withPlace, withVersion, withLast, begun, written};
 ghost use Rattle.model.specs.Strides.{withWork, withZones, withNumber};
 ghost use Rattle.places.specs.Ids.{idsOf, activeIn};
@@ -209,4 +209,13 @@ pub fn with_last(s: State, b: usize) -> State
         last: plane_of(b),
         places: ps,
     }
+}
+
+/// The state with place i free again.
+pub fn forgotten(s: State, i: usize) -> State
+    requires { ⌜ i < 8 ⌝ }
+    ensures { λ r. ⌜ r ≡ withPlace s i freePlace ⌝ }
+{
+    let free = Place::free();
+    with_place(s, i, free)
 }

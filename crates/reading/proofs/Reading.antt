@@ -6,20 +6,19 @@ use mathlib.Core.List.{List, [], _∷_}
 use lib.ListN.{length, getD, take}
 use lib.Dec.{eqb}
 use native.Mathlib.Omega.{arith}
-use borrow.Author.Tests.{le-leb, lt-leb, eq-eqb, ne-eqb, not-true, not-false}
+use borrow.Author.Tests.{le-leb, lt-leb, leb-false, eq-eqb, ne-eqb, eqb-false, not-true, not-false}
 use Rattle.model.specs.Lists.{all, elem}
 use Rattle.model.specs.Page.{pageAt, dataAt}
 use Rattle.model.specs.Geometry.{dataPage, unmapped, entryOk, mapOk}
-use Rattle.model.specs.World.{World, applyOp}
+use Rattle.model.specs.World.{World}
+use Rattle.model.specs.Order.{firstOf}
 use Rattle.model.specs.Frame.{frameOk}
-use Rattle.model.specs.Transactions.{readAnswer, readPart}
-use Rattle.model.specs.Commands.{plan, carried, exec, read}
+use Rattle.model.specs.Transactions.{readChecks, readAnswer, readPart}
 use Rattle.model.specs.declared.Geometry.{Geometry}
 use Rattle.arrays.specs.Tests.{heads-all, all-at}
+use Rattle.arrays.specs.Order.{numbered, Unless, none-applies}
 use Rattle.arrays.specs.Ranges.{data-page-fits}
 use Rattle.arrays.specs.Frame.{frame-in}
-use Rattle.frame.proofs.Gates.{gate-bad, gate-own}
-use Rattle.frame.proofs.Outcomes.{told}
 
 -- an element of a list, whatever stands for those past its end
 pub getD-same : (l : List ℕ) (i d e : ℕ) → i < length l → getD l i d ≡ getD l i e
@@ -53,18 +52,14 @@ frame-passed w ok e t = sym e ∙ not-false ok t
 
 module _ (w : World) (lpn : ℕ) where
   -- ---- the answer
-  pub answers : (n : ℕ) → readAnswer lpn w ≡ n → told w n (w .state) ≡ exec (read lpn) w
-  unfolding exec plan carried applyOp
-  answers n a = rw a
-
-  pub read-bad : frameOk w ≡ false → readAnswer lpn w ≡ 1
-  unfolding readAnswer
-  read-bad f = rw (gate-bad w true f)
+  pub read-bad : frameOk w ≡ false → 1 ≡ readAnswer lpn w
+  unfolding readAnswer firstOf
+  read-bad f = rw f
 
   module _ (f : frameOk w ≡ true) where
-    pub read-past : w .state .geometry .logical ≤ lpn → readAnswer lpn w ≡ 5
-    unfolding readAnswer
-    read-past l = rw (gate-own w true f refl, le-leb (w .state .geometry .logical) lpn l)
+    pub read-past : w .state .geometry .logical ≤ lpn → 5 ≡ readAnswer lpn w
+    unfolding readAnswer firstOf
+    read-past l = rw (f, le-leb (w .state .geometry .logical) lpn l)
 
     module _ (l : lpn < w .state .geometry .logical) where
       pub in-map : lpn < length (w .map)
@@ -73,30 +68,39 @@ module _ (w : World) (lpn : ℕ) where
       entry : getD (w .map) lpn unmapped ≡ getD (w .map) lpn 0
       entry = getD-same (w .map) lpn unmapped 0 in-map
 
-      pub read-never : getD (w .map) lpn 0 ≡ unmapped → readAnswer lpn w ≡ 14
-      unfolding readAnswer
-      read-never u = rw (gate-own w true f refl, lt-leb (w .state .geometry .logical) lpn l, eq-eqb (getD (w .map) lpn unmapped) unmapped (entry ∙ u))
+      pub read-never : getD (w .map) lpn 0 ≡ unmapped → 14 ≡ readAnswer lpn w
+      unfolding readAnswer firstOf
+      read-never u = rw (f, lt-leb (w .state .geometry .logical) lpn l, eq-eqb (getD (w .map) lpn unmapped) unmapped (entry ∙ u))
 
-      module _ (u : getD (w .map) lpn 0 ≡ unmapped → ⊥) where
-        pub read-done : readAnswer lpn w ≡ 0
-        unfolding readAnswer
-        read-done = rw (gate-own w true f refl, lt-leb (w .state .geometry .logical) lpn l, ne-eqb (getD (w .map) lpn unmapped) unmapped (λ (e : getD (w .map) lpn unmapped ≡ unmapped). u (sym entry ∙ e)))
+      pub read-done : (getD (w .map) lpn 0 ≡ unmapped → ⊥) → 0 ≡ readAnswer lpn w
+      unfolding readAnswer firstOf
+      read-done u = rw (f, lt-leb (w .state .geometry .logical) lpn l, ne-eqb (getD (w .map) lpn unmapped) unmapped (λ e. u (sym entry ∙ e)))
 
-        -- ---- the part
-        pub part-done : (page : List ℕ) → page ≡ pageAt (w .array) (getD (w .map) lpn 0) → take 512 page ≡ readPart lpn w
-        unfolding readPart dataAt
-        part-done page p = rw (p, read-done, entry)
+  -- ---- the part, n being the answer
+  module _ (n : ℕ) (a : n ≡ readAnswer lpn w) where
+    pub part-none : (n ≡ 0 → ⊥) → _≡_ {A = List ℕ} [] (readPart lpn w)
+    unfolding readPart
+    part-none z = rw (← a, ne-eqb n 0 z)
 
-        -- its page lies in the array
-        mapped-page : dataPage (w .state .geometry) (getD (w .map) lpn 0) ≡ true
-        unfolding mapOk
-        mapped-page =
-            let a : all (mapped (w .state .geometry)) (w .map) ≡ true = heads-all _ _ (mapped-of (w .state .geometry)) [] (w .map) (frame-in w f .map) in
-            mapped-is (w .state .geometry) _ (all-at (mapped (w .state .geometry)) (w .map) lpn 0 a in-map) u
+    module _ (z : n ≡ 0) where
+      -- what none of the checks leaves
+      passed : {B : Type 0} → (frameOk w ≡ true → lpn < w .state .geometry .logical → (getD (w .map) lpn unmapped ≡ unmapped → ⊥) → B) → B
+      unfolding readAnswer numbered all Unless
+      passed b = none-applies (readChecks lpn w) refl (sym a ∙ z) (λ f l u.
+          b (not-false (frameOk w) f) (leb-false (w .state .geometry .logical) lpn l) (eqb-false (getD (w .map) lpn unmapped) unmapped u))
 
-        pub mapped-fits : getD (w .map) lpn 0 * 528 + 528 ≤ length (w .array)
-        mapped-fits = data-page-fits (w .state .geometry) (w .array) (frame-in w f .lengths .array) _ mapped-page
+      pub part-in-map : lpn < length (w .map)
+      part-in-map = passed (λ f l u. in-map f l)
 
-  pub part-none : (n : ℕ) → readAnswer lpn w ≡ n → eqb n 0 ≡ false → _≡_ {A = List ℕ} [] (readPart lpn w)
-  unfolding readPart
-  part-none n a z = rw (a, z)
+      pub part-done : (page : List ℕ) → page ≡ pageAt (w .array) (getD (w .map) lpn 0) → take 512 page ≡ readPart lpn w
+      unfolding readPart dataAt
+      part-done page p = passed (λ f l u. rw (p, ← a, z, entry f l))
+
+      -- its page lies in the array
+      pub mapped-fits : getD (w .map) lpn 0 * 528 + 528 ≤ length (w .array)
+      unfolding mapOk
+      mapped-fits = passed (λ f l u.
+          let g = w .state .geometry in
+          let m : all (mapped g) (w .map) ≡ true = heads-all _ _ (mapped-of g) [] (w .map) (frame-in w f .map) in
+          data-page-fits g (w .array) (frame-in w f .lengths .array) _
+          (mapped-is g _ (all-at (mapped g) (w .map) lpn 0 m (in-map f l)) (λ e. u (entry f l ∙ e))))

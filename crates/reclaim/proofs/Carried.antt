@@ -7,14 +7,15 @@ use native.Mathlib.Omega.{arith}
 use lib.ListN.{length, take, drop, length-take, length-drop, drop-of-length-le}
 use lib.Seq.{take-take, take-all}
 use lib.Dec.{eqb}
-use borrow.Author.Tests.{le-leb, lt-leb, eq-eqb, ne-eqb}
+use borrow.Author.Tests.{le-leb, lt-leb, ne-eqb}
 use Rattle.model.specs.Lists.{find, part}
 use Rattle.model.specs.Page.{pageAt, dataAt, blankAt}
 use Rattle.model.specs.Zones.{freed}
-use Rattle.model.specs.Checkpoint.{Found, at, nothing}
+use Rattle.model.specs.Checkpoint.{at, nothing}
 use Rattle.model.specs.World.{World, erase, applyOp}
+use Rattle.model.specs.Order.{firstOf}
 use Rattle.model.specs.Transactions.{withVersion, withLast, lonePlan}
-use Rattle.model.specs.Strides.{withWork, withZones, mappedIn, lowestFrom, copyStride, freeStride, reclaimStride}
+use Rattle.model.specs.Strides.{withWork, withZones, mappedIn, picked, lowestFrom, copyStride, freeStride, reclaimStride}
 use Rattle.model.specs.Commands.{Outcome, carried}
 use Rattle.model.specs.declared.State.{State}
 use Rattle.model.specs.declared.Work.the-variants.{Idle, Reclaim}
@@ -22,8 +23,7 @@ use Rattle.model.specs.declared.Zones.{Zones}
 use Rattle.change.specs.Changes.{nextOf, LonePut}
 use Rattle.change.proofs.Carrying.{lastOn, lone-done}
 use Rattle.strides.specs.Strode.{Strode}
-use Rattle.reclaim.specs.Copies.{copiesNumber}
-use Rattle.reclaim.proofs.Room.{copies-spent, copies-short, copies-go}
+use Rattle.reclaim.specs.Copies.{copiesChecks, ownChecks, Looked, Going}
 
 -- the data of page j, copied over 512 bytes
 pub data-copied : (xs : List ℕ) (j to : ℕ) (src d z : List ℕ) → j * 528 + 528 ≤ length xs → to ≡ j * 528 + 512 → src ≡ take (to - j * 528) (drop (j * 528) xs)
@@ -56,42 +56,31 @@ module _ (s : State) (xs map : List ℕ) where
       let e = rw (e1, ez) at e2 in
       λ i. record { answer = 0; world = record { array = ey i; map = map; hold = hold; state = e i } }
 
-  -- ---- by what was picked
-  module _ (f : Found) where
-    pub none-refused : f ≡ nothing → Strode (λ (w : World). reclaimStride w f) s xs map 15 xs map s
-    unfolding reclaimStride carried applyOp
-    none-refused e = λ hold. rw e
+  -- ---- a stride on block b, which is taken
+  module _ (b due : ℕ) (g : Going s xs map b due) where
+    pub block-frees : due ≡ 0 → (n : ℕ) (ys map′ : List ℕ) (t : State) → Strode (freeStride b) s xs map n ys map′ t → Strode reclaimStride s xs map n ys map′ t
+    unfolding reclaimStride picked
+    block-frees z n ys map′ t h = λ hold. rw (g .taken, ← g .due, z) (h hold)
 
-    pub block-strode : (b : ℕ) → f ≡ at b → (n : ℕ) (ys map′ : List ℕ) (t : State) → Strode (λ (w : World). reclaimStride w (at b)) s xs map n ys map′ t
-        → Strode (λ (w : World). reclaimStride w f) s xs map n ys map′ t
-    block-strode b e n ys map′ t h = λ hold. rw e (h hold)
+    pub block-copies : (due ≡ 0 → ⊥) → (n : ℕ) (ys map′ : List ℕ) (t : State)
+        → Strode (copyStride (lowestFrom map (b * s .geometry .pages) (s .geometry .pages))) s xs map n ys map′ t → Strode reclaimStride s xs map n ys map′ t
+    unfolding reclaimStride picked
+    block-copies z n ys map′ t h = λ hold. rw (g .taken, ← g .due, ne-eqb due 0 z) (h hold)
 
-  -- ---- a stride on block b, `due` copies being due
-  module _ (b due : ℕ) (e : due ≡ mappedIn map (s .geometry .pages) b) where
-    pub gain-refused : s .geometry .pages ≤ due → Strode (λ (w : World). reclaimStride w (at b)) s xs map 15 xs map s
-    unfolding reclaimStride carried applyOp
-    gain-refused h = λ hold. rw (← e, le-leb (s .geometry .pages) due h)
+-- ---- what refuses a reclaim
+module _ (w : World) where
+  -- no block is picked
+  pub none-gains : picked w ≡ nothing → (b copies : ℕ) → Looked w (ownChecks w) 15 b copies
+  unfolding firstOf
+  none-gains e b copies = record { refusal = rw e; taken = λ z. absurd (omega (arith, z)) }
 
-    module _ (l : due < s .geometry .pages) where
-      pub block-frees : due ≡ 0 → (n : ℕ) (ys map′ : List ℕ) (t : State) → Strode (freeStride b) s xs map n ys map′ t → Strode (λ (w : World). reclaimStride w (at b)) s xs map n ys map′ t
-      unfolding reclaimStride
-      block-frees z n ys map′ t h = λ hold. rw (← e, lt-leb (s .geometry .pages) due l, eq-eqb due 0 z) (h hold)
+  module _ (b copies : ℕ) (taken : picked w ≡ at b) (due : copies ≡ mappedIn (w .map) (w .state .geometry .pages) b) where
+    -- every page of it is mapped
+    pub block-gains-nothing : w .state .geometry .pages ≤ copies → Looked w (ownChecks w) 15 b copies
+    unfolding firstOf
+    block-gains-nothing h = record { refusal = rw (taken, ← due, le-leb (w .state .geometry .pages) copies h); taken = λ z. absurd (omega (arith, z)) }
 
-      module _ (z : due ≡ 0 → ⊥) (m : ℕ) (c : m ≡ copiesNumber s xs due) where
-        pub spent-refused : m ≡ 13 → Strode (λ (w : World). reclaimStride w (at b)) s xs map 13 xs map s
-        unfolding reclaimStride carried applyOp
-        spent-refused h = λ hold. rw (← e, lt-leb (s .geometry .pages) due l, ne-eqb due 0 z, copies-spent s xs due (sym c ∙ h))
-
-        pub short-refused : m ≡ 16 → Strode (λ (w : World). reclaimStride w (at b)) s xs map 16 xs map s
-        unfolding reclaimStride carried applyOp
-        short-refused h =
-            let k = copies-short s xs due (sym c ∙ h) in
-            λ hold. rw (← e, lt-leb (s .geometry .pages) due l, ne-eqb due 0 z, k .0, k .1)
-
-        pub block-copies : (m ≡ 13 → ⊥) → (m ≡ 16 → ⊥) → (n : ℕ) (ys map′ : List ℕ) (t : State)
-            → Strode (copyStride (lowestFrom map (b * s .geometry .pages) (s .geometry .pages))) s xs map n ys map′ t
-            → Strode (λ (w : World). reclaimStride w (at b)) s xs map n ys map′ t
-        unfolding reclaimStride
-        block-copies f g n ys map′ t h =
-            let k = copies-go s xs due (λ q. f (c ∙ q)) (λ q. g (c ∙ q)) in
-            λ hold. rw (← e, lt-leb (s .geometry .pages) due l, ne-eqb due 0 z, k .0, k .1) (h hold)
+    -- else the copies due decide
+    pub block-looked : copies < w .state .geometry .pages → (n : ℕ) → n ≡ firstOf (copiesChecks (w .state) (w .array) copies) → Looked w (ownChecks w) n b copies
+    unfolding firstOf
+    block-looked h n e = record { refusal = rw (taken, ← due, lt-leb (w .state .geometry .pages) copies h) e; taken = λ z. (taken, due) }

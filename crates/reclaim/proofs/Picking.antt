@@ -14,17 +14,19 @@ use Rattle.model.specs.Lists.{elem, any}
 use Rattle.model.specs.Geometry.{geometryOk, dataBlock}
 use Rattle.model.specs.Zones.{availableOf, unavailableOf, freeOf, listedIn, checkpointed, zonesOk}
 use Rattle.model.specs.Checkpoint as model
-use Rattle.model.specs.Strides.{mappedIn, fewer, pickFrom}
+use Rattle.model.specs.Strides.{mappedIn, fewer, pickFrom, picked}
 use Rattle.model.specs.declared.Geometry.{Geometry}
 use Rattle.model.specs.declared.Zones.{Zones}
+use Rattle.model.specs.declared.State.{State}
 use Rattle.arrays.specs.Tests.{Is, eqb-cases, decide, and-left, all-append, all-at}
-use Rattle.arrays.specs.Ranges.{geometry-in, block-most}
+use Rattle.arrays.specs.Ranges.{geometry-in, block-most, block-is}
 use Rattle.blocks.specs.Blocks.{blocksOf, listOf}
 use Rattle.blocks.specs.declared.Blocks.{Blocks}
 use Rattle.blocks.proofs.Kept.{kept-list, kept-count}
 use Rattle.zones.proofs.Listed.{listed}
-use Rattle.reclaim.specs.Copies.{Counts, InTable, withListed}
+use Rattle.reclaim.specs.Copies.{Counts, InTable, withListed, looked}
 use Rattle.reclaim.proofs.Counting.{inBlock, mapped-is, count-le}
+use Rattle.strides.specs.Strode.{Fit}
 
 -- ---- the blocks that are listed, as they are kept
 module _ (r : Blocks) (xs : List ℕ) (e : r ≡ blocksOf xs) where
@@ -170,3 +172,14 @@ pick-found z map p b n c e =
     let s : b + n - b ≡ n = omega arith in
     let h = picked-so z map p b b n model.nothing (omega arith) (omega arith) in
     rw (← e, s) at h
+
+-- what is picked is a checkpointed data block
+pub picked-block : (s : State) (xs map : List ℕ) (b : ℕ) → Fit s xs map → picked (looked s xs map) ≡ model.at b
+    → (dataBlock (s .geometry) b ≡ true) × (checkpointed (s .zones) b ≡ true)
+unfolding picked
+picked-block s xs map b f e =
+    let g = geometry-in (s .geometry) (f .shape) .blocks-least in
+    let p = pick-found (s .zones) map (s .geometry .pages) 2 (s .geometry .blocks - 2) b (sym e) in
+    let l = p .least in
+    let m = p .most in
+    (block-is (s .geometry) b (omega arith) (omega arith), p .unlisted)

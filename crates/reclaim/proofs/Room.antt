@@ -1,6 +1,6 @@
 -- What a reclaim counts on: room for one more free block, pages and blocks in the array, numbers that fit. Assumes nothing.
-use mathlib.Core.Path.{_≡_, refl, _∙_}
-use mathlib.Core.Bool.{Bool, true, false, cond, _&&_}
+use mathlib.Core.Path.{_≡_, refl}
+use mathlib.Core.Bool.{Bool, true, false, _&&_}
 use mathlib.Core.List.{List, [], _∷_, _++_}
 use Prim.Native.Nat.{ℕ, suc, _+_, _-_, _*_, _≤_, _<_}
 use native.Mathlib.Nat.{mul-le-mul}
@@ -8,20 +8,21 @@ use native.Mathlib.Omega.{arith}
 use lib.ListN.{length}
 use lib.Seq.{length-take-le}
 use lib.Dec.{eqb, leb, ltb}
-use borrow.Author.Tests.{lt-ltb, ltb-true, ltb-false, eqb-false, not-true}
+use borrow.Author.Tests.{lt-ltb, le-ltb, ltb-true, ltb-false, eqb-false, ne-eqb, not-true}
 use Rattle.model.specs.Lists.{all, any, allHeads, find, elem, rising}
 use Rattle.model.specs.Geometry.{geometryOk, dataBlock}
 use Rattle.model.specs.Zones.{availableOf, unavailableOf, freeOf, listedIn, newBlock, checkpointed, zoneListsOk, zonesOk, cleanIn}
-use Rattle.model.specs.Transactions.{spent}
+use Rattle.model.specs.Order.{firstOf}
 use Rattle.model.specs.Strides.{mappedIn, lowestFrom}
 use Rattle.model.specs.declared.Geometry.{Geometry}
 use Rattle.model.specs.declared.State.{State}
 use Rattle.model.specs.declared.Zones.{Zones}
 use Rattle.arrays.specs.Tests.{and-left, and-right, or-false-left, or-false-right, all-head, all-tail, all-weaker, tails-head, tails-tail, elem-append}
+use Rattle.arrays.specs.Order.{numbered, Unless, none-applies}
 use Rattle.arrays.specs.Ranges.{geometry-in, block-least, block-most, block-page-is, page-most, page-small, data-page-fits}
 use Rattle.zones.proofs.Listed.{listed}
 use Rattle.strides.specs.Strode.{Fit}
-use Rattle.reclaim.specs.Copies.{copiesNumber, Copying}
+use Rattle.reclaim.specs.Copies.{copiesChecks, Copying}
 use Rattle.reclaim.proofs.Lowest.{elem-found, lowest-mapped}
 
 -- ---- a rising list of numbers above y and below `hi` that lacks one of them has room for it
@@ -99,38 +100,10 @@ copy-places s xs map j c =
       number = page-small g j h (page-most g j (c .«data»));
     }
 
--- ---- the number that refuses copies: the versions are spent, the reserve is short
-abbrev refusal : Bool → Bool → ℕ
-refusal a b = cond a 13 (cond b 16 0)
-
-module _ (s : State) (xs : List ℕ) (due : ℕ) where
-  pub copies-spent : copiesNumber s xs due ≡ 13 → spent (s .version) due ≡ true
-  unfolding copiesNumber
-  copies-spent = go (spent (s .version) due) (ltb (cleanIn xs (s .geometry .pages) (availableOf (s .zones))) due)
-    where
-      go : (a b : Bool) → refusal a b ≡ 13 → a ≡ true
-      go true b h = refl
-      go false true h = absurd (omega arith)
-      go false false h = absurd (omega arith)
-
-  pub copies-short : copiesNumber s xs due ≡ 16 → (spent (s .version) due ≡ false) × (ltb (cleanIn xs (s .geometry .pages) (availableOf (s .zones))) due ≡ true)
-  unfolding copiesNumber
-  copies-short = go (spent (s .version) due) (ltb (cleanIn xs (s .geometry .pages) (availableOf (s .zones))) due)
-    where
-      go : (a b : Bool) → refusal a b ≡ 16 → (a ≡ false) × (b ≡ true)
-      go true b h = absurd (omega arith)
-      go false true h = (refl, refl)
-      go false false h = absurd (omega arith)
-
-  pub copies-go : (copiesNumber s xs due ≡ 13 → ⊥) → (copiesNumber s xs due ≡ 16 → ⊥)
-      → (spent (s .version) due ≡ false) × (ltb (cleanIn xs (s .geometry .pages) (availableOf (s .zones))) due ≡ false)
-  unfolding copiesNumber
-  copies-go = go (spent (s .version) due) (ltb (cleanIn xs (s .geometry .pages) (availableOf (s .zones))) due)
-    where
-      go : (a b : Bool) → (refusal a b ≡ 13 → ⊥) → (refusal a b ≡ 16 → ⊥) → (a ≡ false) × (b ≡ false)
-      go true b h k = absurd (h refl)
-      go false true h k = absurd (k refl)
-      go false false h k = (refl, refl)
+-- ---- where no copy is due nothing refuses one
+pub none-due : (s : State) (xs : List ℕ) (due : ℕ) → due ≡ 0 → 0 ≡ firstOf (copiesChecks s xs due)
+unfolding firstOf
+none-due s xs due z = rw (z, le-ltb (cleanIn xs (s .geometry .pages) (availableOf (s .zones))) 0 (omega arith))
 
 -- ---- a block that is reclaimed
 module _ (s : State) (xs map : List ℕ) (f : Fit s xs map) (b : ℕ) (d : dataBlock (s .geometry) b ≡ true) where
@@ -153,13 +126,13 @@ module _ (s : State) (xs map : List ℕ) (f : Fit s xs map) (b : ℕ) (d : dataB
       omega arith
 
   -- its lowest mapped page, where nothing refuses the copies due
-  pub block-copying : (due : ℕ) → due ≡ mappedIn map (s .geometry .pages) b → (due ≡ 0 → ⊥) → (m : ℕ) → m ≡ copiesNumber s xs due → (m ≡ 13 → ⊥) → (m ≡ 16 → ⊥)
+  pub block-copying : (due : ℕ) → due ≡ mappedIn map (s .geometry .pages) b → (due ≡ 0 → ⊥) → firstOf (copiesChecks s xs due) ≡ 0
       → (j : ℕ) → j ≡ lowestFrom map (b * s .geometry .pages) (s .geometry .pages) → Copying s xs map j
-  block-copying due e z m c f13 f16 j ej =
+  unfolding numbered all Unless
+  block-copying due e z free j ej =
       let p = s .geometry .pages in
-      let k = copies-go s xs due (λ q. f13 (c ∙ q)) (λ q. f16 (c ∙ q)) in
-      let v = ltb-false 4294967294 (s .version + due) (k .0) in
-      let n = ltb-false (cleanIn xs p (availableOf (s .zones))) due (k .1) in
+      let v = none-applies (copiesChecks s xs due) refl free (λ spent short. ltb-false 4294967294 (s .version + due) (rw (ne-eqb due 0 z) at spent)) in
+      let n = none-applies (copiesChecks s xs due) refl free (λ spent short. ltb-false (cleanIn xs p (availableOf (s .zones))) due short) in
       let o = some due z in
       let a = rw (← ej) at (lowest-mapped map p b (rw (← e) o)) in
       let l = a .least in

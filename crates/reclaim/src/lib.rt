@@ -10,13 +10,13 @@ ghost use Rattle.model.specs.Zones.{checkpointed};
 ghost use Rattle.zones.specs.Judging.{Ready};
 ghost use Rattle.model.specs.Answers.{number};
 ghost use Rattle.model.specs.Checkpoint.{nothing, at};
-ghost use Rattle.model.specs.World.{World};
+ghost use Rattle.model.specs.Order.{firstOf};
 ghost use Rattle.model.specs.Transactions.{withVersion, withLast};
-ghost use Rattle.model.specs.Strides.{withWork, mappedIn, pickFrom, lowestFrom, isReclaim, copyStride, freeStride, reclaimStride};
+ghost use Rattle.model.specs.Strides.{withWork, mappedIn, pickFrom, picked, lowestFrom, isReclaim, copyStride, freeStride, reclaimStride};
 ghost use Rattle.model.specs.declared.Work.the-variants.{Reclaim};
 ghost use Rattle.checkpoint.specs.Found.{foundOf};
 ghost use Rattle.strides.specs.Strode.{Strode, Fit};
-ghost use Rattle.reclaim.specs.Copies.{copiesNumber, Counts, InTable, withListed, Pickable, Copying};
+ghost use Rattle.reclaim.specs.Copies.{looked, copiesChecks, ownChecks, Looked, Going, Counts, InTable, withListed, Pickable, Copying};
 use checkpoint::Found;
 use model::Answer;
 use model::Geometry;
@@ -31,6 +31,13 @@ const FIRST: usize = Geometry::FRONT_BLOCKS as usize;
 
 /// What stands for a listed block among the counts: no block has as many mapped pages.
 const LISTED: u16 = 0xFFFF;
+
+/// The number that refuses a reclaim, or 0 and the block that it takes, with the copies due from it.
+pub struct Due {
+    pub refusal: u8,
+    pub block: usize,
+    pub copies: usize,
+}
 
 /// Whether the work under way is a reclaim.
 pub fn is_reclaim(work: Work) -> bool
@@ -213,66 +220,78 @@ fn free_stride(s: State, array: &mut [u8], map: &[u16], b: usize) -> Stride
     }
 }
 
-/// The number that refuses copies due from a block, 13 or 16, or 0.
-fn copies_refused(s: State, array: &[u8], due: usize) -> u8
+/// Of 13, 16, or 0: what refuses the copies due.
+fn copies_refusal(s: State, array: &[u8], due: usize) -> u8
     requires { ⌜ Ready (s .geometry) (now array) (s .zones) × (due ≤ 64) ⌝ }
-    ensures { λ r. ⌜ r ≡ copiesNumber s (now (array .entry)) due ⌝ }
+    ensures { λ r. ⌜ r ≡ firstOf (copiesChecks s (now (array .entry)) due) ⌝ }
 {
+    if due == 0 {
+        return 0;
+    }
     if s.version as usize + due > State::LAST_NUMBER as usize {
-        return 13;
+        return Refusal::VERSIONS_SPENT;
     }
     let z = s.zones;
     let a = z.available;
     let na = z.na as usize;
     if flash::clean_short(array, s.geometry.pages as usize, &a[..na], due) {
-        return 16;
+        return Refusal::RESERVE_SHORT;
     }
     0
 }
 
-/// A stride on block b.
-fn block_stride(s: State, array: &mut [u8], map: &mut [u16], b: usize) -> Stride
-    requires { ⌜ Fit s (now array) (now map) × ((dataBlock (s .geometry) b ≡ true) × (checkpointed (s .zones) b ≡ true)) ⌝ }
-    ensures { λ r. ⌜ Strode (λ (w : World). reclaimStride w (at b)) s (now (array .entry)) (now (map .entry)) (number (r .answer)) (now (array .exit)) (now (map .exit)) (r .state) ⌝ }
+/// The same for block b, which is picked: 15, 13, 16, or 0.
+fn block_refusal(s: State, array: &[u8], map: &[u16], b: usize) -> Due
+    requires { ⌜ Fit s (now array) (now map) × (picked (looked s (now array) (now map)) ≡ at b) ⌝ }
+    ensures { λ r. ⌜ Looked (looked s (now (array .entry)) (now (map .entry))) (ownChecks (looked s (now (array .entry)) (now (map .entry)))) (r .refusal) (r .block) (r .copies) ⌝ }
 {
     let pages = s.geometry.pages as usize;
-    let due = mapped_in(map, pages, b);
-    if due >= pages {
-        return Stride {
-            answer: Answer::Refused(Refusal::NoGain),
-            state: s,
+    let copies = mapped_in(map, pages, b);
+    if copies >= pages {
+        return Due {
+            refusal: Refusal::NO_GAIN,
+            block: b,
+            copies,
         };
     }
-    if due == 0 {
-        return free_stride(s, array, map, b);
+    Due {
+        refusal: copies_refusal(s, array, copies),
+        block: b,
+        copies,
     }
-    let n = copies_refused(s, array, due);
-    if n == 13 {
-        return Stride {
-            answer: Answer::Refused(Refusal::VersionsSpent),
-            state: s,
-        };
-    }
-    if n == 16 {
-        return Stride {
-            answer: Answer::Refused(Refusal::ReserveShort),
-            state: s,
-        };
-    }
-    let j = lowest_from(map, b * pages, b * pages + pages);
-    copy_stride(s, array, map, j)
 }
 
-/// A stride on what was picked.
-pub fn reclaim_stride(s: State, array: &mut [u8], map: &mut [u16], found: Found) -> Stride
-    requires { ⌜ Fit s (now array) (now map) × (foundOf found ≡ pickFrom (s .zones) (now map) (s .geometry .pages) 2 (s .geometry .blocks - 2) nothing) ⌝ }
-    ensures { λ r. ⌜ Strode (λ (w : World). reclaimStride w (foundOf found)) s (now (array .entry)) (now (map .entry)) (number (r .answer)) (now (array .exit)) (now (map .exit)) (r .state) ⌝ }
+/// What refuses a reclaim, 15, 13, 16, or 0; and where it is 0 the block that is taken and the copies due from it.
+pub fn refusal(s: State, array: &[u8], map: &[u16]) -> Due
+    requires { ⌜ Fit s (now array) (now map) ⌝ }
+    ensures { λ r. ⌜ Looked (looked s (now (array .entry)) (now (map .entry))) (ownChecks (looked s (now (array .entry)) (now (map .entry)))) (r .refusal) (r .block) (r .copies) ⌝ }
 {
+    let found = picked(s, map);
     match found {
-        Found::Nothing => Stride {
-            answer: Answer::Refused(Refusal::NoGain),
-            state: s,
+        Found::Nothing => Due {
+            refusal: Refusal::NO_GAIN,
+            block: 0,
+            copies: 0,
         },
-        Found::At(b) => block_stride(s, array, map, b),
+        Found::At(b) => block_refusal(s, array, map, b),
     }
+}
+
+/// A stride on block b, which is taken: a copy while any is due.
+pub fn reclaim_stride(
+    s: State,
+    array: &mut [u8],
+    map: &mut [u16],
+    b: usize,
+    copies: usize,
+) -> Stride
+    requires { ⌜ Fit s (now array) (now map) × Going s (now array) (now map) b copies ⌝ }
+    ensures { λ r. ⌜ Strode reclaimStride s (now (array .entry)) (now (map .entry)) (number (r .answer)) (now (array .exit)) (now (map .exit)) (r .state) ⌝ }
+{
+    if copies == 0 {
+        return free_stride(s, array, map, b);
+    }
+    let pages = s.geometry.pages as usize;
+    let j = lowest_from(map, b * pages, b * pages + pages);
+    copy_stride(s, array, map, j)
 }

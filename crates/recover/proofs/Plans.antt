@@ -15,8 +15,9 @@ use Rattle.model.specs.Geometry.{unmapped, mapPages, mapOk}
 use Rattle.model.specs.Zones.{Entry, availableOf, unavailableOf, scanIn, scanOf}
 use Rattle.model.specs.Checkpoint.{at, numberAt, loadMap, zonesIn, loadOk}
 use Rattle.model.specs.Recovery.{pagesGood, top, redone}
-use Rattle.model.specs.World.{World, applyOp}
-use Rattle.model.specs.Recover.{entriesAt, zonesAt, floorAt, scannedAt, recoveredMap, recoveredState, recoverPlan, recoverFrom}
+use Rattle.model.specs.World.{applyOp}
+use Rattle.model.specs.Order.{firstOf}
+use Rattle.model.specs.Recover.{entriesAt, zonesAt, floorAt, scannedAt, recoveredMap, recoveredState, recoverPlan}
 use Rattle.model.specs.Commands.{carried}
 use Rattle.model.specs.declared.Geometry.{Geometry}
 use Rattle.model.specs.declared.State.{State}
@@ -34,7 +35,7 @@ use Rattle.scan.proofs.Visiting.{met-few}
 use Rattle.scan.proofs.Judging.{good-top}
 use Rattle.recovery.specs.Redo.{Ready}
 use Rattle.strides.specs.Strode.{Strode}
-use Rattle.recover.specs.Recovering.{Scan, scannedOf, recoveredOf, Scannable, Standing, Loaded}
+use Rattle.recover.specs.Recovering.{Scan, scannedOf, recoveredOf, Scannable, Standing, Loaded, fromPlan}
 use Rattle.recover.proofs.Entries.{entries-used, data-part, maps-fit}
 
 -- ---- the scan
@@ -118,8 +119,8 @@ module _ (planes logical : ℕ) (es : List Entry) (floor : ℕ) (entries map : L
 -- ---- the plan from the checkpoint on page k on
 module _ (g : Geometry) (s : State) (xs map : List ℕ) (k : ℕ) where
   -- refusal 3
-  pub bad-checkpoint : loadOk g (entriesAt g xs k) (zonesAt g xs k) ≡ false → Strode (λ (w : World). recoverFrom g w (at k)) s xs map 3 xs map s
-  unfolding carried recoverFrom applyOp
+  pub bad-checkpoint : loadOk g (entriesAt g xs k) (zonesAt g xs k) ≡ false → Strode (fromPlan g k) s xs map 3 xs map s
+  unfolding carried fromPlan firstOf applyOp
   bad-checkpoint e = λ hold. rw e
 
   module _ (z entries : List ℕ) (d : Loaded g xs k z entries) (zones : Zones) (ez : zones ≡ zonesIn z) (floor : ℕ) (ef : floor ≡ le32 z 0)
@@ -136,8 +137,8 @@ module _ (g : Geometry) (s : State) (xs map : List ℕ) (k : ℕ) where
     scan-is = ap (scanIn xs (g .pages)) eb ∙ ap (λ (y : Zones). scanIn xs (g .pages) (unavailableOf y ++ availableOf y)) zones-is
 
     -- refusal 4
-    pub bad-page : good ≡ false → Strode (λ (w : World). recoverFrom g w (at k)) s xs map 4 xs m s
-    unfolding carried recoverFrom applyOp
+    pub bad-page : good ≡ false → Strode (fromPlan g k) s xs map 4 xs m s
+    unfolding carried fromPlan firstOf applyOp
     bad-page e =
         let q = refused-back (g .planes) (g .logical) (scanIn xs (g .pages) bs) floor (take (g .logical) entries) map good t m h e in
         let bad : pagesGood (g .planes) (g .logical) (scannedAt g xs k) ≡ false = ap (pagesGood (g .planes) (g .logical)) (sym scan-is) ∙ q .0 in
@@ -145,8 +146,8 @@ module _ (g : Geometry) (s : State) (xs map : List ℕ) (k : ℕ) where
 
     -- done
     pub recovers : good ≡ true → (version number : ℕ) → version ≡ max floor t → number ≡ numberAt xs k → (r : State) → r ≡ recoveredOf g zones version number k
-        → Strode (λ (w : World). recoverFrom g w (at k)) s xs map 0 xs m r
-    unfolding carried recoverFrom applyOp recoverPlan recoveredMap recoveredState recoveredOf
+        → Strode (fromPlan g k) s xs map 0 xs m r
+    unfolding carried fromPlan firstOf applyOp recoverPlan recoveredMap recoveredState recoveredOf
     recovers e version number ev en r er =
         let q = passed-back (g .planes) (g .logical) (scanIn xs (g .pages) bs) floor (take (g .logical) entries) map good t m h e in
         let ok : pagesGood (g .planes) (g .logical) (scannedAt g xs k) ≡ true = ap (pagesGood (g .planes) (g .logical)) (sym scan-is) ∙ q .0 in
@@ -181,11 +182,11 @@ module _ (g : Geometry) (s : State) (xs map : List ℕ) (k : ℕ) (h : Standing 
   load-at b e = rw (← entries-are, ← zones-are) e
 
   module _ (t : Bool) (et : t ≡ (mapOk g (take (g .logical) entries) && all (eqb unmapped) (drop (g .logical) entries))) where
-    pub entries-refused : t ≡ false → Strode (λ (w : World). recoverFrom g w (at k)) s xs map 3 xs map s
+    pub entries-refused : t ≡ false → Strode (fromPlan g k) s xs map 3 xs map s
     entries-refused e = bad-checkpoint g s xs map k (load-at false (entries-bad g entries z t et e))
 
     module _ (e : t ≡ true) (u : Bool) (eu : u ≡ zonePageOk g z) where
-      pub zones-refused : u ≡ false → Strode (λ (w : World). recoverFrom g w (at k)) s xs map 3 xs map s
+      pub zones-refused : u ≡ false → Strode (fromPlan g k) s xs map 3 xs map s
       zones-refused f = bad-checkpoint g s xs map k (load-at false (load-is g entries z t et u eu e ∙ f))
 
       pub loaded : u ≡ true → Loaded g xs k z entries

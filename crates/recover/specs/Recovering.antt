@@ -1,15 +1,17 @@
 -- What a recovery makes of a scan, and what it may count on.
 use Prim.Native.Nat.{ℕ, _+_, _*_, _≤_, _<_, _/_}
 use mathlib.Core.Path.{_≡_}
-use mathlib.Core.Bool.{Bool, true, false, cond}
-use mathlib.Core.List.{List}
+use mathlib.Core.Bool.{Bool, true, false, cond, not}
+use mathlib.Core.List.{List, [], _∷_}
 use lib.ListN.{length, replicate}
 use Rattle.model.specs.Geometry.{geometryOk, mapPages}
 use Rattle.model.specs.Zones.{Entry}
 use Rattle.model.specs.Checkpoint.{loadOk}
 use Rattle.model.specs.Recovery.{pagesGood, top, redone}
+use Rattle.model.specs.World.{World, Plan}
+use Rattle.model.specs.Order.{Check, checked}
 use Rattle.model.specs.Frame.{freePlace}
-use Rattle.model.specs.Recover.{entriesAt, zonesAt}
+use Rattle.model.specs.Recover.{entriesAt, zonesAt, scannedAt, recoverPlan}
 use Rattle.model.specs.declared.Geometry.{Geometry}
 use Rattle.model.specs.declared.State.{State}
 use Rattle.model.specs.declared.Zones.{Zones}
@@ -69,3 +71,13 @@ pub record Loaded (g : Geometry) (xs : List ℕ) (k : ℕ) (z entries : List ℕ
   pub zones : z ≡ zonesAt g xs k
   pub used : entries ≡ entriesAt g xs k
   pub ok : loadOk g (entriesAt g xs k) (zonesAt g xs k) ≡ true
+
+-- 3 and 4 of the checkpoint on page k
+abbrev pub fromChecks : Geometry → ℕ → World → List Check
+fromChecks g k w =
+    record { number = 3; when = not (loadOk g (entriesAt g (w .array) k) (zonesAt g (w .array) k)) }
+    ∷ record { number = 4; when = not (pagesGood (g .planes) (g .logical) (scannedAt g (w .array) k)) } ∷ []
+
+-- a recovery from it
+unfoldable pub fromPlan : Geometry → ℕ → World → Plan
+fromPlan g k w = checked (fromChecks g k w) w (recoverPlan g k w)

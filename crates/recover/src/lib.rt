@@ -6,11 +6,8 @@ ghost use lib.ListN.{take};
 ghost use Rattle.model.specs.Answers.{number};
 ghost use Rattle.model.specs.Geometry.{geometryOk};
 ghost use Rattle.model.specs.Zones.{scanIn};
-ghost use Rattle.model.specs.Checkpoint.{at};
-ghost use Rattle.model.specs.World.{World};
-ghost use Rattle.model.specs.Recover.{recoverFrom};
 ghost use Rattle.strides.specs.Strode.{Strode};
-ghost use Rattle.recover.specs.Recovering.{scannedOf, recoveredOf, Scannable, Lent, Standing, Loaded};
+ghost use Rattle.recover.specs.Recovering.{scannedOf, recoveredOf, Scannable, Lent, Standing, Loaded, fromPlan};
 use model::Answer;
 use model::Geometry;
 use model::Map;
@@ -165,7 +162,7 @@ fn apply(
     entries: &[u16],
 ) -> Stride
     requires { ⌜ Standing g (now array) (now map) k × Loaded g (now array) k (now z) (now entries) ⌝ }
-    ensures { λ r. ⌜ Strode (λ (w : World). recoverFrom g w (at k)) s (now (array .entry)) (now (map .entry)) (number (r .answer)) (now (array .entry)) (now (map .exit)) (r .state) ⌝ }
+    ensures { λ r. ⌜ Strode (fromPlan g k) s (now (array .entry)) (now (map .entry)) (number (r .answer)) (now (array .entry)) (now (map .exit)) (r .state) ⌝ }
 {
     let zones = load::zones_in(z);
     let floor = page::word32(z, 0);
@@ -174,10 +171,7 @@ fn apply(
     let n = order.n;
     let r = scan_blocks(array, map, g, &list[..n], floor, entries);
     if !r.good {
-        return Stride {
-            answer: Answer::Refused(Refusal::BadPage),
-            state: s,
-        };
+        return strides::refused(s, Refusal::BAD_PAGE);
     }
     let number = checkpoint::number_at(array, k);
     Stride {
@@ -189,7 +183,7 @@ fn apply(
 /// Recovers from the complete checkpoint on page k on: 3, 4, or done.
 pub fn recover_from(s: State, array: &[u8], map: &mut [u16], g: Geometry, k: usize) -> Stride
     requires { ⌜ Standing g (now array) (now map) k ⌝ }
-    ensures { λ r. ⌜ Strode (λ (w : World). recoverFrom g w (at k)) s (now (array .entry)) (now (map .entry)) (number (r .answer)) (now (array .entry)) (now (map .exit)) (r .state) ⌝ }
+    ensures { λ r. ⌜ Strode (fromPlan g k) s (now (array .entry)) (now (map .entry)) (number (r .answer)) (now (array .entry)) (now (map .exit)) (r .state) ⌝ }
 {
     let m = ranges::map_pages(g);
     let used = Map::ENTRIES_A_PAGE * m;
@@ -197,16 +191,10 @@ pub fn recover_from(s: State, array: &[u8], map: &mut [u16], g: Geometry, k: usi
     let a = (k + m) * Spare::PAGE;
     let e = a + Spare::DATA;
     if !load::entries_ok(g, &entries[..used]) {
-        return Stride {
-            answer: Answer::Refused(Refusal::BadCheckpoint),
-            state: s,
-        };
+        return strides::refused(s, Refusal::BAD_CHECKPOINT);
     }
     if !load::zone_page_ok(g, &array[a..e]) {
-        return Stride {
-            answer: Answer::Refused(Refusal::BadCheckpoint),
-            state: s,
-        };
+        return strides::refused(s, Refusal::BAD_CHECKPOINT);
     }
     apply(s, array, map, g, k, &array[a..e], &entries[..used])
 }

@@ -1,22 +1,23 @@
 -- What a recovery that is done found: a complete checkpoint that lies in the front, whose zones are those of the state; so their blocks can be
 -- scanned. Assumes nothing.
-use mathlib.Core.Path.{_≡_, refl, sym, ap, subst}
-use mathlib.Core.Bool.{Bool, true, false, not, cond}
+use mathlib.Core.Path.{_≡_, refl, sym, subst}
+use mathlib.Core.Bool.{true}
 use mathlib.Core.List.{_++_}
 use Prim.Native.Nat.{ℕ}
-use native.Mathlib.Omega.{arith}
 use lib.ListN.{length}
+use borrow.Author.Tests.{not-false}
+use Rattle.model.specs.Lists.{all}
 use Rattle.model.specs.Geometry.{mapPages}
 use Rattle.model.specs.Zones.{availableOf, unavailableOf}
-use Rattle.model.specs.Checkpoint.{Found, nothing, at, newest, zonesIn, loadOk}
-use Rattle.model.specs.Recovery.{pagesGood}
-use Rattle.model.specs.World.{World, Plan, refuse}
+use Rattle.model.specs.Checkpoint.{zonesIn, loadOk}
+use Rattle.model.specs.World.{World}
 use Rattle.model.specs.Frame.{lentOk}
-use Rattle.model.specs.Recover.{entriesAt, zonesAt, scannedAt, recoveredState, recoverPlan, recoverFrom, planRecover}
+use Rattle.model.specs.Recover.{entriesAt, zonesAt, recoveredState, recoverPlan, planRecover, checkpointTaken, pageTaken, recoverChecks}
 use Rattle.model.specs.Commands.{recover, plan, carried, exec}
 use Rattle.model.specs.declared.Geometry.{Geometry}
 use Rattle.model.specs.declared.State.{State}
 use Rattle.arrays.specs.Ranges.{geometry-in}
+use Rattle.arrays.specs.Order.{numbered, Unless, none-applies, done-first, found-at}
 use Rattle.flash.specs.Ranges.{Within}
 use Rattle.blocks.specs.Blocks.{blocksOf}
 use Rattle.blocks.proofs.Kept.{kept-list}
@@ -33,37 +34,16 @@ record FoundAt (g : Geometry) (w : World) (s : State) : Type 0 where
   made : s ≡ recoveredState g (w .array) page
 
 module _ (g : Geometry) (w : World) where
-  -- a plan that answers 0 was made so
-  abbrev Made : Plan → Type 0
-  Made p = p .answer ≡ 0 → FoundAt g w (p .state)
-
-  made-from : lentOk g w ≡ true → (f : Found) → newest (w .array) (mapPages g) (g .pages) ≡ f → Made (recoverFrom g w f)
-  unfolding recoverFrom recoverPlan lentOk
-  made-from l nothing e = λ z. absurd (omega arith)
-  made-from l (at k) e = go (loadOk g (entriesAt g (w .array) k) (zonesAt g (w .array) k)) (pagesGood (g .planes) (g .logical) (scannedAt g (w .array) k)) refl
-    where
-      go : (b c : Bool) → loadOk g (entriesAt g (w .array) k) (zonesAt g (w .array) k) ≡ b
-          → Made (cond (not b) (refuse w 3) (cond (not c) (refuse w 4) (recoverPlan g k w)))
-      go false c h = λ z. absurd (omega arith)
-      go true false h = λ z. absurd (omega arith)
-      go true true h = λ z. record {
-        page = k;
-        stands = standing g w (lentOk g w) refl (ap not l) (mapPages g) refl (newest (w .array) (mapPages g) (g .pages)) refl k e;
-        loads = h;
-        made = refl;
-      }
-
-  made-plan : Made (planRecover g w)
-  unfolding planRecover
-  made-plan = go (lentOk g w) refl
-    where
-      go : (b : Bool) → lentOk g w ≡ b → Made (cond b (recoverFrom g w (newest (w .array) (mapPages g) (g .pages))) (refuse w 1))
-      go true l = made-from l (newest (w .array) (mapPages g) (g .pages)) refl
-      go false l = λ z. absurd (omega arith)
-
   done-found : exec (recover g) w .answer ≡ 0 → FoundAt g w (exec (recover g) w .world .state)
-  unfolding exec carried plan
-  done-found = made-plan
+  unfolding exec carried plan planRecover lentOk numbered all Unless
+  done-found z =
+      let first = done-first (recoverChecks g w) w (recoverPlan g (pageTaken g w) w) z in
+      none-applies (recoverChecks g w) refl first (λ lent none load good. rw first (unfold recoverPlan in record {
+        page = pageTaken g w;
+        stands = standing g w (lentOk g w) refl lent (mapPages g) refl (checkpointTaken g w) refl (pageTaken g w) (found-at (checkpointTaken g w) none);
+        loads = not-false _ load;
+        made = refl;
+      }))
 
 -- so the blocks in scan order can be looked through
 found-fits : (g : Geometry) (w : World) (s : State) (f : FoundAt g w s) → ScanFits (w .array) (recoveredState g (w .array) (f .page))

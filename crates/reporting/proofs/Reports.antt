@@ -10,6 +10,7 @@ use Rattle.io.specs.Counts.{Counts}
 use borrow.Author.Tests.{lt-ltb, le-ltb}
 use Rattle.model.specs.Zones.{tornOf}
 use Rattle.model.specs.World.{World}
+use Rattle.model.specs.Order.{firstOf}
 use Rattle.model.specs.Geometry.{geometryOk, blankMap}
 use Rattle.model.specs.Frame.{freshState, lentOk}
 use Rattle.model.specs.Recover.{planRecover}
@@ -65,7 +66,7 @@ unfolding lentOk
 lent-geometry g w e = and-left (geometryOk g) _ e
 
 wide-refused : (g : Geometry) (xs : List ℕ) → 1024 < g .logical → exec (recover g) (lent g xs (blankMap g)) .answer ≡ 1
-unfolding exec carried plan planRecover
+unfolding exec carried plan planRecover firstOf
 wide-refused g xs h = go (lentOk g (lent g xs (blankMap g))) refl
   where
     go : (b : Bool) → lentOk g (lent g xs (blankMap g)) ≡ b → exec (recover g) (lent g xs (blankMap g)) .answer ≡ 1

@@ -17,10 +17,11 @@ use Rattle.model.specs.Zones.{Entry, availableOf, unavailableOf, zonesOk, forma
 use Rattle.model.specs.Checkpoint.{nothing, at, mapPage, zonePage, loadMap, zonesIn, loadOk}
 use Rattle.model.specs.Recovery.{pagesGood, top, redone}
 use Rattle.model.specs.World.{World, Op, none, program, erase, Plan, refuse, applyOp, dueBits, turnedBits, turn, cutOp, programs, isNone}
+use Rattle.model.specs.Order.{firstOf}
 use Rattle.model.specs.Frame.{noPlace, freePlace, badId, placesOk, formatStrideOk, checkpointStrideOk, workOk, lentOk, frameOk, isIdle, gate, freshState}
 use Rattle.model.specs.Transactions.{withPlace, withVersion, withLast, numberOf, dataBytes, changeBytes, heldAt, holdWith, heldPage, heldDrop, placeOf, begun, liveId, longestChange, written, heldOp, heldState, writePlan, gone, lonePlan, entered, markPlan, forgetPlan, cleanPages, nextPage, zoneShort, spent, readPart}
-use Rattle.model.specs.Strides.{withWork, withZones, withNumber, isCheckpoint, isReclaim, mapStride, zoneStride, pageStride, checkpointStride, mappedIn, picked, lowestFrom, copyStride, freeStride, reclaimStride, stridesDone, formatWorkOk, formatMore, formatLast, formatStride, planFormat}
-use Rattle.model.specs.Recover.{recoveredMap, recoveredState, recoverPlan, recoverFrom, planRecover}
+use Rattle.model.specs.Strides.{withWork, withZones, withNumber, isCheckpoint, isReclaim, mapStride, zoneStride, pageStride, checkpointStride, mappedIn, picked, lowestFrom, copyStride, freeStride, stridesDone, formatWorkOk, formatMore, formatLast, formatStride, planFormat}
+use Rattle.model.specs.Recover.{recoveredMap, recoveredState, recoverPlan, planRecover}
 use Rattle.model.specs.Commands.{Call, format, recover, begin, write, dropPage, lone, commit, abort, read, checkpoint, reclaim, plan, carried, exec, Outcome}
 use Rattle.model.specs.Book.{Event, called, cutIn}
 use Rattle.model.specs.Sequence.{Running, runsDue, runsTurned, cutRuns, waits, during, started, left, runsAfter, Phase, live, dark, Allowed, cutEvent, cutArray, isRecovery, Step, call, cut, back, failed, Run, stop, next, Formatting, first, more, Formatted, finished, fits}
@@ -31,7 +32,7 @@ use Rattle.model.specs.declared.Zones.{Zones}
 use Rattle.model.specs.declared.Plane.the-variants.{Neither}
 use Rattle.model.specs.declared.Work.{Work}
 use Rattle.model.specs.declared.Work.the-variants.{Idle, Format, Checkpoint, Reclaim}
-use Rattle.examples.specs.Orders.{begin-done, write-done, drop-done, lone-done, commit-done, abort-done, checkpoint-done, front-suffices, reclaim-strides, reclaim-done, reclaim-frees}
+use Rattle.examples.specs.Orders.{begin-done, write-done, drop-done, lone-done, commit-done, abort-done, checkpoint-done, front-suffices, reclaim-done, reclaim-frees}
 use Rattle.runs.specs.Paged.{flat, Sized, length-flat, page-flat, part-flat, splice-flat, put-flat, usedOn, cleanOn, nextOn, takenOn, scanOn, newestOn, numberOn, used-on, clean-on, next-on, taken-on, scan-on, newest-page, number-on, slideOn, slide-on}
 
 -- ---- a device: the pages of its array, each of 528 bytes, map, hold and state
@@ -175,13 +176,12 @@ module _ (x : Device) where
 
   -- 1 and 17 pass
   pub passes : (own : Bool) → formatting (s .work) ≡ false → frameOn x ≡ true → (isIdle (s .work) || own) ≡ true → gate own (world x) ≡ 0
-  unfolding gate
+  unfolding gate firstOf
   passes own f e i = rw (frame-on f, e, i) refl
 
-  -- 17
-  pub busy : formatting (s .work) ≡ false → frameOn x ≡ true → isIdle (s .work) ≡ false → gate false (world x) ≡ 17
-  unfolding gate
-  busy f e i = rw (frame-on f, e, i) refl
+  -- 1 passes
+  pub framed : formatting (s .work) ≡ false → frameOn x ≡ true → frameOk (world x) ≡ true
+  framed f e = frame-on f ∙ e
 
   clean-pages : cleanPages (world x) ≡ clean
   clean-pages = clean-on (flat qs) qs (page-flat qs sized) (s .geometry .pages) available
@@ -372,8 +372,8 @@ module _ (x : Device) where
   -- ---- reclaim of block b
   module _ (b : ℕ) (still : formatting (s .work) ≡ false) (frame : frameOn x ≡ true) (own : (isIdle (s .work) || isReclaim (s .work)) ≡ true)
       (pick : picked (world x) ≡ at b) (some : leb (s .geometry .pages) (mappedIn m (s .geometry .pages) b) ≡ false) where
-    strides : plan reclaim (world x) ≡ reclaimStride (world x) (at b)
-    strides = reclaim-strides (world x) (passes (isReclaim (s .work)) still frame own) ∙ ap (reclaimStride (world x)) pick
+    pass-reclaim : gate (isReclaim (s .work)) (world x) ≡ 0
+    pass-reclaim = passes (isReclaim (s .work)) still frame own
 
     -- a copy of page j, which logical page l has, on page k
     pub reclaim-copies : (j l k : ℕ) (d q : List ℕ) → eqb (mappedIn m (s .geometry .pages) b) 0 ≡ false → spent (s .version) (mappedIn m (s .geometry .pages) b) ≡ false
@@ -383,7 +383,7 @@ module _ (x : Device) where
         → exec reclaim (world x) ≡ record { answer = 255; world = device (splice qs k 1 (q ∷ [])) (enterPage m l k) h (withWork (withVersion (taken k) (s .version + 1)) (s .front) (s .first) Reclaim) }
     unfolding exec carried copyStride withWork withVersion withLast dataAt
     reclaim-copies j l k d q c v z low f e n o =
-        ap (λ (p : Plan). carried p (world x)) (strides ∙ reclaim-done (world x) b some c v (ap (λ (x : ℕ). ltb x (mappedIn m (s .geometry .pages) b)) clean-pages ∙ z))
+        ap (λ (p : Plan). carried p (world x)) (reclaim-done (world x) pass-reclaim b pick some c v (ap (λ (x : ℕ). ltb x (mappedIn m (s .geometry .pages) b)) clean-pages ∙ z))
         ∙ (ap (λ (y : ℕ). carried (copyStride y (world x)) (world x)) low
         ∙ rw (f, page-flat qs sized j, e, next-page k n, programs-on (s .geometry .pages) k (dataBytes d l 1 0 (s .version + 1)) q o) refl)
 
@@ -391,7 +391,7 @@ module _ (x : Device) where
     blankPage = replicate 528 255
 
     free-op : eqb (mappedIn m (s .geometry .pages) b) 0 ≡ true → plan reclaim (world x) ≡ freeStride b (world x)
-    free-op e = strides ∙ reclaim-frees (world x) b some e
+    free-op e = reclaim-frees (world x) pass-reclaim b pick some e
 
     -- the erase
     pub reclaim-erases : (rs : List (List ℕ)) → eqb (mappedIn m (s .geometry .pages) b) 0 ≡ true → replicate (s .geometry .pages * 528) 255 ≡ flat rs
@@ -426,14 +426,14 @@ module _ (x : Device) where
       → scanOn qs (g .pages) (unavailableOf (zonesIn z) ++ availableOf (zonesIn z)) ≡ es → numberOn qs k ≡ number
       → loadOk g entries z ≡ true → pagesGood (g .planes) (g .logical) es ≡ true
       → exec (recover g) (world x) ≡ record { answer = 0; world = device qs (redone (g .planes) (le32 z 0) es (take (g .logical) entries)) h (record { geometry = g; zones = zonesIn z; version = max (le32 z 0) (top es); checkpoint = number; front = k / g .pages; first = 0; work = Idle; last = Neither; places = replicate 8 freePlace }) }
-  unfolding exec carried plan planRecover recoverFrom recoverPlan recoveredMap recoveredState scanOf applyOp dataAt
+  unfolding exec carried plan planRecover firstOf recoverPlan recoveredMap recoveredState scanOf applyOp dataAt
   recovers g k entries z es number len new load zone scan num three four =
       rw (lent-on g, len, newest-page (flat qs) qs (page-flat qs sized) (mapPages g) (g .pages), new, load-on k (mapPages g), load, page-flat qs sized (k + mapPages g), zone, scan-on (flat qs) qs (page-flat qs sized) (g .pages) (unavailableOf (zonesIn z) ++ availableOf (zonesIn z)), scan, number-on (flat qs) qs (page-flat qs sized) k, num, three, four) refl
 
   -- ---- the strides of a format
   module _ (g : Geometry) (k : ℕ) (len : lentOn g x ≡ true) (done : stridesDone g s (s .work) ≡ k) (ready : formatWorkOk g (world x) (s .work) ≡ true) where
     format-strides : plan (format g) (world x) ≡ formatStride g k (world x)
-    unfolding plan planFormat
+    unfolding plan planFormat firstOf
     format-strides = rw (lent-on g, len, ready, done) refl
 
     -- an erase, of block k

@@ -21,7 +21,7 @@ use Rattle.examples.specs.Unfolded.{go, told}
 use Rattle.examples.specs.Rules.{small}
 use Rattle.examples.specs.Orders.{read-14, read-0}
 use Rattle.runs.specs.Paged.{Sized, sized-take}
-use Rattle.runs.specs.Devices.{Device, world, passes, begins, lone-writes, first-write, next-drop, commits, recovers, reads-part, answered}
+use Rattle.runs.specs.Devices.{Device, world, framed, begins, lone-writes, first-write, next-drop, commits, recovers, reads-part, answered}
 use Rattle.runs.specs.Runs.{pages, paged, sized-pages, zeros, ones, hold, zones1, map1, zone1, fronts, sized-fronts, idle, free8, change, w0, formatted, handed}
 
 -- ---- the pages: a lone write of logical page 3, then the first page of change 1, which writes logical page 5 and drops 3
@@ -260,17 +260,17 @@ same-data x y lpn j k d e f m n p q = record {
 pub same-3 : SameRead (world y12) (world y21) 3
 unfolding paged
 same-3 =
-    same-never y12 y21 3 (read-14 (world y12) (passes y12 true refl refl refl) 3 refl refl)
-    (read-14 (world y21) (passes y21 true refl refl refl) 3 refl refl)
+    same-never y12 y21 3 (read-14 (world y12) (framed y12 refl refl) 3 refl refl)
+    (read-14 (world y21) (framed y21 refl refl) 3 refl refl)
 
 pub same-4 : SameRead (world y12) (world y21) 4
 unfolding paged write18 write19
 same-4 =
-    same-data y12 y21 4 19 18 zeros (read-0 (world y12) (passes y12 true refl refl refl) 4 refl refl)
-    (read-0 (world y21) (passes y21 true refl refl refl) 4 refl refl) refl refl refl refl
+    same-data y12 y21 4 19 18 zeros (read-0 (world y12) (framed y12 refl refl) 4 refl refl)
+    (read-0 (world y21) (framed y21 refl refl) 4 refl refl) refl refl refl refl
 
 pub same-5 : SameRead (world y12) (world y21) 5
 unfolding paged p17
 same-5 =
-    same-data y12 y21 5 17 17 ones (read-0 (world y12) (passes y12 true refl refl refl) 5 refl refl)
-    (read-0 (world y21) (passes y21 true refl refl refl) 5 refl refl) refl refl refl refl
+    same-data y12 y21 5 17 17 ones (read-0 (world y12) (framed y12 refl refl) 5 refl refl)
+    (read-0 (world y21) (framed y21 refl refl) 5 refl refl) refl refl refl refl

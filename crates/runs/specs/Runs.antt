@@ -30,9 +30,9 @@ use Rattle.model.specs.declared.Plane.the-variants.{Neither}
 use Rattle.model.specs.declared.Work.the-variants.{Idle, Format, Checkpoint, Reclaim}
 use Rattle.examples.specs.Unfolded.{go, told}
 use Rattle.examples.specs.Rules.{small}
-use Rattle.examples.specs.Orders.{begin-6 as begin-6-law, begin-7 as begin-7-law, begin-9 as begin-9-law, begin-17, write-5, write-8, write-11, read-14, read-0, reclaim-strides, reclaim-none, recover-1, format-1}
+use Rattle.examples.specs.Orders.{begin-6 as begin-6-law, begin-7 as begin-7-law, begin-9 as begin-9-law, begin-17, write-5, write-8, write-11, read-14, read-0, reclaim-none, recover-1, format-1}
 use Rattle.runs.specs.Paged.{flat, Sized, page-flat, sized-take, sized-append, sized-replicate, usedOn, cleanOn, nextOn, takenOn, entryOn, wholeOn, scanOn, isOn, mapsOn, completeOn, newerOn, newestOn, fullOn, slideOn}
-use Rattle.runs.specs.Devices.{Device, world, device, still, lentOn, frameOn, workOn, format-erases, format-maps, format-ends, format-ready, format-first, format-more, format-finished, refused-stays, passes, busy, reads-part, lent-on, live-on, begins, begin-op, lone-op, lone-writes, first-write, next-write, first-drop, next-drop, commit-op, commits, aborts, checkpoint-begins, checkpoint-ends, reclaim-copies, reclaim-erases, reclaim-op, reclaim-shape, loadOn, recovers, idle-told, idle-left, page-told, page-left, block-told, block-left, answered, cut-short, recovered, turned-down, joined}
+use Rattle.runs.specs.Devices.{Device, world, device, still, lentOn, frameOn, workOn, format-erases, format-maps, format-ends, format-ready, format-first, format-more, format-finished, refused-stays, passes, framed, reads-part, lent-on, live-on, begins, begin-op, lone-op, lone-writes, first-write, next-write, first-drop, next-drop, commit-op, commits, aborts, checkpoint-begins, checkpoint-ends, reclaim-copies, reclaim-erases, reclaim-op, reclaim-shape, loadOn, recovers, idle-told, idle-left, page-told, page-left, block-told, block-left, answered, cut-short, recovered, turned-down, joined}
 
 -- ---- pages
 abbrev pub blank : List ℕ
@@ -386,7 +386,7 @@ handed x = record { pages = x .pages; sized = x .sized; map = replicate 16 5; ho
 -- ---- 1: a change opened, its commit cut one bit short
 read-3-never : exec (read 3) (world w0) ≡ record { answer = 14; world = world w0 }
 unfolding paged
-read-3-never = refused-stays (read 3) (world w0) 14 (read-14 (world w0) (passes w0 true refl refl refl) 3 refl refl)
+read-3-never = refused-stays (read 3) (world w0) 14 (read-14 (world w0) (framed w0 refl refl) 3 refl refl)
 
 begin-0 : exec (begin 0) (world w0) ≡ record { answer = 6; world = world w0 }
 unfolding paged
@@ -478,7 +478,7 @@ run1 =
 -- ---- 2: nothing of it reads back and its identifier is live still; the same writes in another change, its commit cut at its last bit
 read-3-still : exec (read 3) (world w4) ≡ record { answer = 14; world = world w4 }
 unfolding paged
-read-3-still = refused-stays (read 3) (world w4) 14 (read-14 (world w4) (passes w4 true refl refl refl) 3 refl refl)
+read-3-still = refused-stays (read 3) (world w4) 14 (read-14 (world w4) (framed w4 refl refl) 3 refl refl)
 
 begin-5-on-page : exec (begin 5) (world w4) ≡ record { answer = 7; world = world w4 }
 unfolding paged p16 p17
@@ -511,11 +511,11 @@ recover-8 = recovers (handed w8) small 0 (replicate 256 65535) (zoneData 0 zones
 -- both its pages read back
 read-zeros : readPart 3 (world w8) ≡ zeros
 unfolding paged p18
-read-zeros = reads-part w8 3 18 zeros (read-0 (world w8) (passes w8 true refl refl refl) 3 refl refl) refl refl
+read-zeros = reads-part w8 3 18 zeros (read-0 (world w8) (framed w8 refl refl) 3 refl refl) refl refl
 
 read-ones : readPart 4 (world w8) ≡ ones
 unfolding paged p19
-read-ones = reads-part w8 4 19 ones (read-0 (world w8) (passes w8 true refl refl refl) 4 refl refl) refl refl
+read-ones = reads-part w8 4 19 ones (read-0 (world w8) (framed w8 refl refl) 4 refl refl) refl refl
 
 abbrev pub events2 : List Event
 events2 =
@@ -543,7 +543,7 @@ run2 =
 -- ---- 3: read, a commit, an abort, a lone write
 read-3 : exec (read 3) (world w8) ≡ record { answer = 0; world = world w8 }
 unfolding paged
-read-3 = refused-stays (read 3) (world w8) 0 (read-0 (world w8) (passes w8 true refl refl refl) 3 refl refl)
+read-3 = refused-stays (read 3) (world w8) 0 (read-0 (world w8) (framed w8 refl refl) 3 refl refl)
 
 begin-7 : exec (begin 7) (world w8) ≡ record { answer = 0; world = world w9 }
 unfolding paged p16 p17 p18 p19
@@ -669,7 +669,7 @@ run4 =
 -- ---- 5: a checkpoint, a reclaim, its erase cut, its end
 reclaim-none-left : exec reclaim (world w14) ≡ record { answer = 15; world = world w14 }
 unfolding paged
-reclaim-none-left = refused-stays reclaim (world w14) 15 (reclaim-strides (world w14) (passes w14 false refl refl refl) ∙ reclaim-none (world w14))
+reclaim-none-left = refused-stays reclaim (world w14) 15 (reclaim-none (world w14) (passes w14 false refl refl refl) refl)
 
 lone-4 : exec (lone 4 ones) (world w14) ≡ record { answer = 0; world = world w15 }
 unfolding paged p16 p17 p18 p19 p20 p21 p22 p23
@@ -681,7 +681,7 @@ checkpoint-1 = checkpoint-begins w15 refl refl refl 2 map2 refl refl refl refl r
 
 begin-busy : exec (begin 9) (world w16) ≡ record { answer = 17; world = world w16 }
 unfolding paged
-begin-busy = refused-stays (begin 9) (world w16) 17 (begin-17 (world w16) 9 (busy w16 refl refl refl))
+begin-busy = refused-stays (begin 9) (world w16) 17 (begin-17 (world w16) 9 (framed w16 refl refl) refl)
 
 checkpoint-2 : exec checkpoint (world w16) ≡ record { answer = 0; world = world w17 }
 unfolding paged zone2 p16 p17 p18 p19 p20 p21 p22 p23
@@ -838,7 +838,7 @@ recover-26 = recovers (handed w26) small 2 (mapped 22 23 ++ replicate 240 65535)
 
 read-3-kept : exec (read 3) (world w26) ≡ record { answer = 0; world = world w26 }
 unfolding paged
-read-3-kept = refused-stays (read 3) (world w26) 0 (read-0 (world w26) (passes w26 true refl refl refl) 3 refl refl)
+read-3-kept = refused-stays (read 3) (world w26) 0 (read-0 (world w26) (framed w26 refl refl) 3 refl refl)
 
 begin-22 : exec (begin 22) (world w26) ≡ record { answer = 0; world = world w27 }
 unfolding paged p24 p25 p26 p27
@@ -862,7 +862,7 @@ recover-29 = recovers (handed w29) small 2 (mapped 22 23 ++ replicate 240 65535)
 
 read-3-dropped : exec (read 3) (world w29) ≡ record { answer = 14; world = world w29 }
 unfolding paged
-read-3-dropped = refused-stays (read 3) (world w29) 14 (read-14 (world w29) (passes w29 true refl refl refl) 3 refl refl)
+read-3-dropped = refused-stays (read 3) (world w29) 14 (read-14 (world w29) (framed w29 refl refl) 3 refl refl)
 
 abbrev pub events7 : List Event
 events7 =

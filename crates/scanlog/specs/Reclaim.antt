@@ -1,24 +1,27 @@
 -- Reclaim's strides: "Each stride picks anew, in a sequence the same block", and "in a sequence only the first can refuse".
 use mathlib.Core.Path.{_≡_, refl, ap, subst}
-use mathlib.Core.Bool.{Bool, true, false, cond}
+use mathlib.Core.Logic.{inl, inr}
+use mathlib.Core.Bool.{true, false, cond, not, _||_}
 use Prim.Native.Nat.{ℕ, _+_, _-_, _*_, _≤_, _<_}
 use native.Mathlib.Omega.{arith}
 use mathlib.Core.List.{List}
 use lib.ListN.{set}
-use lib.Dec.{eqb, ltb, leb}
-use borrow.Author.Tests.{leb-false, ltb-false, eqb-true, lt-leb, le-ltb}
+use lib.Dec.{eqb}
+use borrow.Author.Tests.{leb-false, ltb-false, lt-leb, le-ltb}
 use Rattle.model.specs.Lists.{find}
 use Rattle.model.specs.Page.{blankAt}
 use Rattle.model.specs.Zones.{cleanIn, nextIn, takenFrom, availableOf}
-use Rattle.model.specs.Checkpoint.{Found, nothing, at}
-use Rattle.model.specs.World.{World, refuse}
-use Rattle.model.specs.Answers.{refused}
-use Rattle.model.specs.Transactions.{cleanPages}
-use Rattle.model.specs.Strides.{mappedIn, pickFrom, picked, lowestFrom, copyStride, freeStride, reclaimStride}
+use Rattle.model.specs.Checkpoint.{Found, nothing, at, isNothing}
+use Rattle.model.specs.World.{World}
+use Rattle.model.specs.Order.{firstOf}
+use Rattle.model.specs.Frame.{frameOk, isIdle}
+use Rattle.model.specs.Transactions.{cleanPages, versionsSpent}
+use Rattle.model.specs.Strides.{mappedIn, pickFrom, picked, lowestFrom, copyStride, freeStride, reclaimStride, planReclaim, noGain, reserveShort, copiesDue, blockTaken, isReclaim}
 use Rattle.model.specs.declared.Geometry.{Geometry}
 use Rattle.model.specs.declared.Plane.{Plane}
 use Rattle.model.specs.declared.Zones.{Zones}
-use Rattle.arrays.specs.Tests.{clash}
+use Rattle.arrays.specs.Tests.{Is, eqb-cases, and-right-false, or-false-left, or-false-right}
+use Rattle.arrays.specs.Order.{found-at}
 use Rattle.arrays.specs.Pages.{Other}
 use Rattle.scanlog.specs.Occ.{occ}
 use Rattle.scanlog.specs.Shape.{Unlisted, checkpointed-unlisted}
@@ -68,39 +71,42 @@ going-copy g z last xs ys map version b h t due o e =
 abbrev pub GoingOn : World → ℕ → Type 0
 GoingOn w b = Going (w .state .geometry) (w .state .zones) (w .array) (w .map) (w .state .version) b
 
--- "in a sequence only the first can refuse": a stride that is going on copies the lowest mapped page, or erases
-pub stride-goes : (w : World) (b : ℕ) → GoingOn w b
-    → reclaimStride w (picked w) ≡ cond (eqb (mappedIn (w .map) (w .state .geometry .pages) b) 0) (freeStride b w)
-    (copyStride (lowestFrom (w .map) (b * w .state .geometry .pages) (w .state .geometry .pages)) w)
-unfolding picked reclaimStride
-stride-goes w b h =
+-- "in a sequence only the first can refuse": where it is going on no check of its own applies
+pub going-passes : (w : World) (b : ℕ) → GoingOn w b → frameOk w ≡ true → (isIdle (w .state .work) || isReclaim (w .state .work)) ≡ true
+    → planReclaim w ≡ reclaimStride w
+unfolding picked planReclaim firstOf
+going-passes w b h f i =
     let p = w .state .geometry .pages in
     let due = mappedIn (w .map) p b in
-    rw (h .pick, lt-leb p due (h .gain), le-ltb 4294967294 (w .state .version + due) (h .numbers), le-ltb (cleanPages w) due (h .reserve))
+    rw (
+      f,
+      i,
+      h .pick,
+      lt-leb p due (h .gain),
+      le-ltb 4294967294 (w .state .version + due) (h .numbers),
+      and-right-false (not (eqb due 0)) false refl,
+      le-ltb (cleanPages w) due (h .reserve),
+    )
 
--- a stride that is not refused is going on
-pub stride-going : (w : World) → w .state .version ≤ 4294967294 → refused (reclaimStride w (picked w) .answer) ≡ false → (b : ℕ) × GoingOn w b
-unfolding picked reclaimStride refused
-stride-going w v a = go (pickFrom (w .state .zones) (w .map) (w .state .geometry .pages) 2 (w .state .geometry .blocks - 2) nothing) refl a
+-- it copies the lowest mapped page, or erases
+pub stride-goes : (w : World) (b : ℕ) → GoingOn w b
+    → reclaimStride w ≡ cond (eqb (mappedIn (w .map) (w .state .geometry .pages) b) 0) (freeStride b w)
+    (copyStride (lowestFrom (w .map) (b * w .state .geometry .pages) (w .state .geometry .pages)) w)
+unfolding picked reclaimStride
+stride-goes w b h = rw (h .pick)
+
+-- where no check applies it is going on
+pub stride-going : (w : World) → w .state .version ≤ 4294967294 → noGain w .when ≡ false
+    → versionsSpent (not (eqb (copiesDue w) 0)) (w .state .version) (copiesDue w) .when ≡ false → reserveShort w .when ≡ false → GoingOn w (blockTaken w)
+unfolding picked
+stride-going w v gain numbers reserve =
+    record {
+      pick = found-at (picked w) (or-false-left (isNothing (picked w)) _ gain);
+      gain = leb-false (w .state .geometry .pages) (copiesDue w) (or-false-right (isNothing (picked w)) _ gain);
+      numbers = enough (eqb-cases (copiesDue w) 0);
+      reserve = ltb-false (cleanPages w) (copiesDue w) reserve;
+    }
   where
-    tests : (b : ℕ) (t u r s : Bool) → leb (w .state .geometry .pages) (mappedIn (w .map) (w .state .geometry .pages) b) ≡ t
-        → eqb (mappedIn (w .map) (w .state .geometry .pages) b) 0 ≡ u → ltb 4294967294 (w .state .version + mappedIn (w .map) (w .state .geometry .pages) b) ≡ r
-        → ltb (cleanPages w) (mappedIn (w .map) (w .state .geometry .pages) b) ≡ s
-        → refused (cond t (refuse w 15) (cond u (freeStride b w)
-        (cond r (refuse w 13) (cond s (refuse w 16) (copyStride (lowestFrom (w .map) (b * w .state .geometry .pages) (w .state .geometry .pages)) w)))) .answer)
-        ≡ false → pickFrom (w .state .zones) (w .map) (w .state .geometry .pages) 2 (w .state .geometry .blocks - 2) nothing ≡ at b → GoingOn w b
-    tests b true u r s p q n c a e = clash refl a
-    tests b false true r s p q n c a e =
-        let d : mappedIn (w .map) (w .state .geometry .pages) b ≡ 0 = eqb-true _ 0 q in
-        record { pick = e; gain = leb-false _ _ p; numbers = omega arith; reserve = omega arith }
-    tests b false false true s p q n c a e = clash refl a
-    tests b false false false true p q n c a e = clash refl a
-    tests b false false false false p q n c a e = record { pick = e; gain = leb-false _ _ p; numbers = ltb-false _ _ n; reserve = ltb-false _ _ c }
-
-    go : (r : Found) → pickFrom (w .state .zones) (w .map) (w .state .geometry .pages) 2 (w .state .geometry .blocks - 2) nothing ≡ r
-        → refused (reclaimStride w r .answer) ≡ false → (b : ℕ) × GoingOn w b
-    go nothing e a = clash refl a
-    go (at b) e a =
-        let p = w .state .geometry .pages in
-        let due = mappedIn (w .map) p b in
-        (b, tests b (leb p due) (eqb due 0) (ltb 4294967294 (w .state .version + due)) (ltb (cleanPages w) due) refl refl refl refl a e)
+    enough : Is (copiesDue w) 0 → w .state .version + copiesDue w ≤ 4294967294
+    enough (inl q) = omega (arith, q .0)
+    enough (inr q) = ltb-false 4294967294 (w .state .version + copiesDue w) (rw (q .1) at numbers)

@@ -8,20 +8,21 @@ use mathlib.Core.List.{List}
 use lib.ListN.{length, set, length-set}
 use lib.Seq.{getD-set-same, getD-set-other}
 use lib.Dec.{leb}
-use Rattle.model.specs.Answers.{refused}
 use Rattle.model.specs.World.{World, Plan, applyOp}
 use Rattle.model.specs.Frame.{freePlace, noPlace, isIdle}
-use Rattle.model.specs.Transactions.{placeOf, forgetPlan, planAbort}
+use Rattle.model.specs.Transactions.{placeOf, forgetPlan, planAbort, abortChecks}
 use Rattle.model.specs.Commands.{abort, plan, carried}
 use Rattle.model.specs.Book.{Book, entering, changing, writesOf, close}
 use Rattle.model.specs.declared.Place.{Place}
+use Rattle.model.specs.Lists.{all}
 use Rattle.arrays.specs.Tests.{Is, eqb-cases}
+use Rattle.arrays.specs.Order.{numbered, Unless}
 use Rattle.scanlog.specs.Open.{opens-set}
 use Rattle.sequence.specs.Places.{placeAt, places-set, free-ok, Found, place-found}
 use Rattle.sequence.specs.OpenBook.{isOpen, close-own, close-other, close-open}
 use Rattle.sequence.specs.Writes.{Writes}
 use Rattle.sequence.specs.Live.{Changing, Live, scanned}
-use Rattle.sequence.specs.View.{View, yes, view-test, view-gate, idle-only, Keeps, done-live, view-keeps}
+use Rattle.sequence.specs.View.{View, yes, view-checks, idle-only, Keeps, done-live, view-keeps}
 use Rattle.sequence.specs.Begin.{placed, live-place}
 
 -- ---- the open changes without that of place i
@@ -84,11 +85,9 @@ pub record Aborts (w : World) (id : ℕ) (p : Plan) : Type 0 where
   pub is : p ≡ forgetPlan (placeOf (w .state .places) id) w
 
 pub abort-view : (id : ℕ) (w : World) → View w (Aborts w id) (planAbort id w)
-unfolding planAbort refused
-abort-view id w =
-    view-gate w (Aborts w id) false _ (λ f i.
-    view-test w (Aborts w id) (leb 8 (placeOf (w .state .places) id)) 8 _ refl (λ a.
-    yes _ (record { idle = idle-only (isIdle (w .state .work)) i; begun = a; is = refl })))
+unfolding planAbort numbered all Unless
+abort-view id w = view-checks w (Aborts w id) (forgetPlan (placeOf (w .state .places) id) w) (abortChecks id w) refl (λ f i a.
+    yes _ (record { idle = idle-only (isIdle (w .state .work)) i; begun = a; is = refl }))
 
 pub abort-keeps : (w : World) (b : Book) (id : ℕ) → Live w b → Keeps (abort id) w b
 unfolding plan carried applyOp forgetPlan

@@ -9,24 +9,24 @@ use lib.ListN.{length, set, length-set}
 use lib.Seq.{getD-set-same, getD-set-other}
 use lib.Dec.{eqb, leb}
 use borrow.Author.Tests.{eq-eqb, ne-eqb, ltb-true}
-use Rattle.model.specs.Lists.{find}
+use Rattle.model.specs.Lists.{find, all}
 use Rattle.model.specs.Zones.{hasId, active, onPages}
-use Rattle.model.specs.Answers.{refused}
-use Rattle.model.specs.World.{World, Plan, none, applyOp}
+use Rattle.model.specs.World.{World, Plan, applyOp}
 use Rattle.model.specs.Frame.{noPlace, badId, isIdle}
-use Rattle.model.specs.Transactions.{withPlace, begun, liveId, planBegin}
+use Rattle.model.specs.Transactions.{withPlace, begun, liveId, planBegin, beginPlan, beginChecks}
 use Rattle.model.specs.Commands.{begin, plan, carried}
 use Rattle.model.specs.Book.{Book, entering, changing, writesOf}
 use Rattle.model.specs.Sequence.{fits}
 use Rattle.model.specs.declared.Place.{Place}
 use Rattle.arrays.specs.Tests.{Is, eqb-cases, clash, or-false-left, or-false-right}
+use Rattle.arrays.specs.Order.{numbered, Unless}
 use Rattle.front.specs.Kept.{kept-away}
 use Rattle.scanlog.specs.Open.{Opens, opens-set, open-begun}
 use Rattle.sequence.specs.Places.{PlacesGood, placeAt, places-set, begun-ok, inactive, free-found}
 use Rattle.sequence.specs.OpenBook.{isOpen, opened, begin-own, begin-other, begin-open}
 use Rattle.sequence.specs.Writes.{Writes, writes-begun}
 use Rattle.sequence.specs.Live.{Changing, Live, scanned}
-use Rattle.sequence.specs.View.{View, yes, view-test, view-gate, idle-only, idle-calm, Keeps, done-live, view-keeps}
+use Rattle.sequence.specs.View.{View, yes, view-checks, idle-only, idle-calm, Keeps, done-live, view-keeps}
 
 -- ---- a world with another place i
 abbrev pub placed : World → ℕ → Place → World
@@ -56,16 +56,12 @@ pub record Begins (w : World) (id : ℕ) (p : Plan) : Type 0 where
   pub name : badId id ≡ false
   pub fresh : liveId id w ≡ false
   pub room : leb 8 (find (hasId 0) (w .state .places)) ≡ false
-  pub is : p ≡ record { answer = 0; op = none; map = w .map; hold = w .hold; state = withPlace (w .state) (find (hasId 0) (w .state .places)) (begun id) }
+  pub is : p ≡ beginPlan id w
 
 pub begin-view : (id : ℕ) (w : World) → View w (Begins w id) (planBegin id w)
-unfolding planBegin refused
-begin-view id w =
-    view-gate w (Begins w id) false _ (λ f i.
-    view-test w (Begins w id) (badId id) 6 _ refl (λ a.
-    view-test w (Begins w id) (liveId id w) 7 _ refl (λ c.
-    view-test w (Begins w id) (leb 8 (find (hasId 0) (w .state .places))) 9 _ refl (λ d.
-    yes _ (record { idle = idle-only (isIdle (w .state .work)) i; name = a; fresh = c; room = d; is = refl })))))
+unfolding planBegin numbered all Unless
+begin-view id w = view-checks w (Begins w id) (beginPlan id w) (beginChecks id w) refl (λ f i a c d.
+    yes _ (record { idle = idle-only (isIdle (w .state .work)) i; name = a; fresh = c; room = d; is = refl }))
 
 module _ (w : World) (b : Book) (id : ℕ) (h : Live w b) (small : id < 4294967296) (idle : isIdle (w .state .work) ≡ true) (name : badId id ≡ false)
     (fresh : liveId id w ≡ false) (room : leb 8 (find (hasId 0) (w .state .places)) ≡ false) where

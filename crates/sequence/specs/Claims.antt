@@ -14,6 +14,7 @@ use Rattle.model.specs.Geometry.{geometryOk, dataPage}
 use Rattle.model.specs.Zones.{entryOf}
 use Rattle.model.specs.Answers.{refused}
 use Rattle.model.specs.World.{World, Op, program}
+use Rattle.model.specs.Order.{firstOf}
 use Rattle.model.specs.Frame.{lentOk, isIdle}
 use Rattle.model.specs.Transactions.{readAnswer}
 use Rattle.model.specs.Strides.{isCheckpoint, isReclaim, picked, planFormat}
@@ -155,7 +156,7 @@ any-recover g w = refl
 
 -- and every format that is refused, as one is whose geometry or buffers are out of range
 pub any-refused : (g h : Geometry) (w : World) → lentOk h w ≡ false → Allowed g (format h) w
-unfolding plan planFormat refused
+unfolding plan planFormat firstOf refused
 any-refused g h w e = rw e refl
 
 -- the arguments that the program's types admit: identifiers of 32 bits, other numbers of 16, data bytes

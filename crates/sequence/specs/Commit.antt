@@ -9,15 +9,15 @@ use mathlib.Core.List.{List, [], _∷_, _++_}
 use lib.ListN.{length, getD, set}
 use lib.Seq.{getD-set-same, getD-set-other, take-all}
 use lib.Dec.{eqb, leb, ltb}
-use borrow.Author.Tests.{eqb-true, eqb-false, ltb-true, ltb-false}
+use borrow.Author.Tests.{eqb-true, eqb-false, ltb-true, ltb-false, not-true, not-false}
+use Rattle.model.specs.Lists.{all}
 use Rattle.model.specs.Page.{pageAt, dataAt, spareOf, wholeAt, blankAt}
 use Rattle.model.specs.Geometry.{dataPage}
 use Rattle.model.specs.Zones.{Entry, entryOf}
 use Rattle.model.specs.Recovery.{ofId}
-use Rattle.model.specs.Answers.{refused}
 use Rattle.model.specs.World.{World, Plan, applyOp}
 use Rattle.model.specs.Frame.{freePlace, noPlace, badId, isIdle}
-use Rattle.model.specs.Transactions.{placeOf, withPlace, withVersion, cleanPages, nextPage, zoneShort, spent, pageKind, changeBytes, heldAt}
+use Rattle.model.specs.Transactions.{placeOf, withPlace, withVersion, cleanPages, nextPage, zoneShort, spent, pageKind, changeBytes, heldAt, placeWith, holds, commitPlan, commitChecks}
 use Rattle.model.specs.Transactions.{heldPage, heldDrop, entered, markPlan, forgetPlan, planCommit, withLast, numberOf}
 use Rattle.model.specs.Commands.{commit, plan, carried}
 use Rattle.model.specs.Book.{Book, Write, entering, changing, writesOf, close, enterAll}
@@ -25,6 +25,7 @@ use Rattle.model.specs.declared.Geometry.{Geometry}
 use Rattle.model.specs.declared.Place.{Place}
 use Rattle.model.specs.declared.Spare.{Spare}
 use Rattle.arrays.specs.Tests.{Is, eqb-cases, clash}
+use Rattle.arrays.specs.Order.{numbered, Unless}
 use Rattle.arrays.specs.Bytelist.{Bytes}
 use Rattle.arrays.specs.Image.{SpareFits}
 use Rattle.arrays.specs.Whole.{whole-not-blank}
@@ -39,7 +40,7 @@ use Rattle.sequence.specs.Contents.{Contents, contentOf}
 use Rattle.sequence.specs.Places.{placeAt, places-set, free-ok, Found, place-found}
 use Rattle.sequence.specs.Writes.{Laid, Writes, Enters, Entered, WholeSame, writeAt, laid-keep, stored-keep, enters-all, held-long}
 use Rattle.sequence.specs.Live.{Live, live-range, live-logged, scanned}
-use Rattle.sequence.specs.View.{View, yes, view-test, view-gate, view-cond, idle-only, Keeps, done-live, view-keeps, idle-calm}
+use Rattle.sequence.specs.View.{View, yes, view-checks, view-cond, idle-only, Keeps, done-live, view-keeps, idle-calm}
 use Rattle.sequence.specs.Abort.{changing-close, found-apart, forget-live}
 use Rattle.sequence.specs.Lone.{changing-grow, room-clean}
 use Rattle.sequence.specs.Write.{kind-small}
@@ -56,16 +57,13 @@ pub data Commits (w : World) (id : ℕ) : Plan → Type 0 where
       → Commits w id (markPlan (placeOf (w .state .places) id) (placeAt (w .state .places) (placeOf (w .state .places) id)) w)
 
 pub commit-view : (id : ℕ) (w : World) → View w (Commits w id) (planCommit id w)
-unfolding planCommit refused
+unfolding planCommit numbered all Unless
 commit-view id w =
-    let i = placeOf (w .state .places) id in
-    let p = placeAt (w .state .places) i in
-    view-gate w (Commits w id) false _ (λ f o.
-    view-test w (Commits w id) (leb 8 i) 8 _ refl (λ a.
-    view-cond w (Commits w id) (eqb (p .count) 0) _ _ (λ z. yes _ (forgets (idle-only (isIdle (w .state .work)) o) a (eqb-true (p .count) 0 z))) (λ z.
-    view-test w (Commits w id) (spent (w .state .version) 1) 13 _ refl (λ c.
-    view-test w (Commits w id) (zoneShort w) 12 _ refl (λ e.
-    yes _ (marks (idle-only (isIdle (w .state .work)) o) a (eqb-false (p .count) 0 z) c e))))))
+    let p = placeWith id w in
+    view-checks w (Commits w id) (commitPlan id w) (commitChecks id w) refl (λ f o a c e.
+    view-cond w (Commits w id) (holds id w) _ _
+    (λ z. yes _ (marks (idle-only (isIdle (w .state .work)) o) a (eqb-false (p .count) 0 (not-true (eqb (p .count) 0) z)) (rw z at c) (rw z at e)))
+    (λ z. yes _ (forgets (idle-only (isIdle (w .state .work)) o) a (eqb-true (p .count) 0 (not-false (eqb (p .count) 0) z)))))
 
 -- ---- the mark
 module _ (w : World) (b : Book) (h : Live w b) (id i : ℕ) (idle : isIdle (w .state .work) ≡ true) (f : Found (w .state .places) id i)

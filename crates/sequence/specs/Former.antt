@@ -2,8 +2,7 @@
 -- (docs/PAPERS.md), which goes up to 64 pages. What demand 3 says of the layer's own sequences holds of these too, on one plane: a layer that let a change
 -- have 64 pages knew one plane.
 use mathlib.Core.Path.{_≡_, refl, _∙_}
-use mathlib.Core.Logic.{_≢_}
-use mathlib.Core.Bool.{Bool, true, false, not, cond, _&&_, _||_}
+use mathlib.Core.Bool.{Bool, true, false, not, cond, _&&_}
 use Prim.Native.Nat.{ℕ, _≤_, _<_}
 use native.Mathlib.Omega.{arith}
 use mathlib.Core.List.{List, [], _∷_}
@@ -15,8 +14,9 @@ use borrow.Author.Tests.{eqb-true, ne-eqb, ltb-true, lt-ltb, le-ltb, leb-true, l
 use Rattle.model.specs.Page.{classOf, pageAt}
 use Rattle.model.specs.Answers.{refused}
 use Rattle.model.specs.World.{World, Plan, refuse, dueBits, turnedBits, cutOp, programs}
-use Rattle.model.specs.Frame.{noPlace, mostPages, frameOk, isIdle, gate}
-use Rattle.model.specs.Transactions.{unless, placeOf, zoneShort, longestChange, writePlan, addPlan, planWrite}
+use Rattle.model.specs.Order.{firstOf}
+use Rattle.model.specs.Frame.{noPlace, mostPages, isIdle, gate}
+use Rattle.model.specs.Transactions.{placeOf, zoneShort, longestChange, writePlan, addPlan, planWrite, writeChecks}
 use Rattle.model.specs.Commands.{write, carried}
 use Rattle.model.specs.Book.{Book, Event, called, cutIn, blank, tell, story, entering}
 use Rattle.model.specs.Sequence.{fits, Running, cutRuns, Phase, live, dark, arrayOf, Step, Run, stop, next, Formatted}
@@ -25,9 +25,11 @@ use Rattle.model.specs.declared.Geometry.{Geometry}
 use Rattle.model.specs.declared.Place.{Place}
 use Rattle.model.specs.declared.Class.the-variants.{Torn}
 use Rattle.arrays.specs.Tests.{and-left, and-right}
+use Rattle.arrays.specs.Frame.{gate-passes}
+use Rattle.arrays.specs.Order.{past-first}
 use Rattle.sequence.specs.Places.{placeAt}
 use Rattle.sequence.specs.PlaceIn.{most-one}
-use Rattle.sequence.specs.View.{View, yes, view-test, view-cond}
+use Rattle.sequence.specs.View.{View, yes, view-cond, no, idle-only}
 use Rattle.sequence.specs.Write.{WritesTo, write-view, write-told, write-bytes, add-shape, add-live}
 use Rattle.sequence.specs.Beside.{none-run, besides-none}
 use Rattle.sequence.specs.Cuts.{quiet-told, add-cut}
@@ -80,24 +82,6 @@ former-own (next s r) = then (step s) (former-own r)
 abbrev pub FormerKept : Type 0
 FormerKept = (g : Geometry) (w : World) (es : List Event) (p : Phase) → g .planes ≡ 1 → Formatted g w → FormerRun g (live w []) es p → Kept g es p
 
--- ---- where a write answers 10, nothing but the length stands against it
-module _ (w : World) {A : Type 0} where
-  -- a test that refuses with another number
-  ten-test : (t : Bool) (n : ℕ) (p : Plan) → n ≢ 10 → (t ≡ false → p .answer ≡ 10 → A) → cond t (refuse w n) p .answer ≡ 10 → A
-  ten-test true n p other go e = absurd (other e)
-  ten-test false n p other go e = go refl e
-
-  -- refusals 1 and 17
-  ten-gate : (p : Plan) → (isIdle (w .state .work) ≡ true → p .answer ≡ 10 → A) → unless (gate false w) w p .answer ≡ 10 → A
-  unfolding gate
-  ten-gate p go e = by (frameOk w) (isIdle (w .state .work)) go e
-    where
-      by : (f i : Bool) → (i ≡ true → p .answer ≡ 10 → A)
-          → cond (eqb (cond f (cond (i || false) 0 17) 1) 0) p (refuse w (cond f (cond (i || false) 0 17) 1)) .answer ≡ 10 → A
-      by true true go e = go refl e
-      by true false go e = absurd (omega (arith, e))
-      by false i go e = absurd (omega (arith, e))
-
 module _ (id lpn : ℕ) (d : List ℕ) (w : World) where
   -- the place of the change
   abbrev i : ℕ
@@ -110,15 +94,15 @@ module _ (id lpn : ℕ) (d : List ℕ) (w : World) where
   module _ (pass : gate false w ≡ 0) (long : eqb (length d) 512 ≡ true) (in-range : leb (w .state .geometry .logical) lpn ≡ false)
       (open-at : leb 8 i ≡ false) where
     pub former-done : at .count < 64 → (not (eqb (at .count) 0) && zoneShort w) ≡ false → formerWrite id lpn d w ≡ writePlan i at lpn false d w
-    unfolding formerWrite hasRoom planWrite addPlan writePlan
+    unfolding formerWrite hasRoom planWrite firstOf writePlan
     former-done room short = by (leb longestChange (at .count)) refl
       where
         by : (t : Bool) → leb longestChange (at .count) ≡ t → formerWrite id lpn d w ≡ writePlan i at lpn false d w
         by true t =
             let some : eqb (at .count) 0 ≡ false = ne-eqb (at .count) 0 (λ z. omega (arith, leb-true longestChange (at .count) t, z)) in
             let none : zoneShort w ≡ false = rw some at short in
-            rw (pass, long, in-range, open-at, t, lt-ltb (at .count) 64 room, none) refl
-        by false t = rw (pass, long, in-range, open-at, t, short) refl
+            rw (gate-passes false w pass .0, gate-passes false w pass .1, long, in-range, open-at, t, lt-ltb (at .count) 64 room, none) refl
+        by false t = rw (gate-passes false w pass .0, gate-passes false w pass .1, long, in-range, open-at, t, short) refl
 
   pub former-full : 64 ≤ at .count → formerWrite id lpn d w ≡ planWrite id lpn d w
   unfolding formerWrite hasRoom
@@ -133,23 +117,33 @@ module _ (id lpn : ℕ) (d : List ℕ) (w : World) where
   former-same e = rw e refl
 
   -- ---- it writes, or refuses
+  -- where a write answers 10, nothing but the length stands against it
   longer : planWrite id lpn d w .answer ≡ 10 → at .count < mostPages (w .state .geometry) → zoneShort w ≡ false
       → WritesTo w id lpn false d (writePlan i at lpn false d w)
-  unfolding planWrite addPlan
+  unfolding planWrite writePlan
   longer e room short =
-      ten-gate w _ (λ idle.
-      ten-test w (not (eqb (length d) 512)) 11 _ (λ z. omega (arith, z)) (λ a.
-      ten-test w (leb (w .state .geometry .logical) lpn) 5 _ (λ z. omega (arith, z)) (λ c.
-      ten-test w (leb 8 i) 8 _ (λ z. omega (arith, z)) (λ found x.
+      let ten = answered (firstOf (writeChecks id lpn d w)) e in
+      let frame = past-first 10 _ _ (λ z. omega (arith, z)) ten in
+      let idle = past-first 10 _ _ (λ z. omega (arith, z)) (frame .1) in
+      let long = past-first 10 _ _ (λ z. omega (arith, z)) (idle .1) in
+      let low = past-first 10 _ _ (λ z. omega (arith, z)) (long .1) in
+      let begun = past-first 10 _ _ (λ z. omega (arith, z)) (low .1) in
       record {
-        idle = idle;
-        long = eqb-true (length d) 512 (not-false (eqb (length d) 512) a);
-        low = leb-false (w .state .geometry .logical) lpn c;
-        begun = found;
+        idle = idle-only (isIdle (w .state .work)) (idle .0);
+        long = eqb-true (length d) 512 (not-false (eqb (length d) 512) (long .0));
+        low = leb-false (w .state .geometry .logical) lpn (low .0);
+        begun = begun .0;
         room = room;
         clean = λ z. short;
         is = refl;
-      })))) e
+      }
+    where
+      answered : (n : ℕ) → cond (eqb n 0) (addPlan id lpn false d w) (refuse w n) .answer ≡ 10 → n ≡ 10
+      answered n e = go (eqb n 0) e
+        where
+          go : (t : Bool) → cond t (addPlan id lpn false d w) (refuse w n) .answer ≡ 10 → n ≡ 10
+          go true e = absurd (omega (arith, e))
+          go false e = e
 
   room-in : w .state .geometry .planes ≡ 1 → hasRoom at ≡ true → at .count < mostPages (w .state .geometry)
   unfolding hasRoom
@@ -159,7 +153,7 @@ module _ (id lpn : ℕ) (d : List ℕ) (w : World) where
   unfolding formerWrite refused
   former-view one =
       view-cond w (WritesTo w id lpn false d) (eqb (planWrite id lpn d w .answer) 10 && hasRoom at) _ _ (λ t.
-      view-test w (WritesTo w id lpn false d) (zoneShort w) 12 _ refl (λ short.
+      view-cond w (WritesTo w id lpn false d) (zoneShort w) _ _ (λ full. no 12 refl) (λ short.
       yes _ (longer (eqb-true _ 10 (and-left (eqb (planWrite id lpn d w .answer) 10) _ t)) (room-in one (and-right (eqb (planWrite id lpn d w .answer) 10) _ t))
       short)))
       (λ t. write-view id lpn d w)

@@ -1,27 +1,28 @@
 -- A lone write keeps the world live, and the book has its page.
 use mathlib.Core.Path.{_≡_, refl, sym, _∙_, subst}
 use mathlib.Core.Logic.{_≢_}
-use mathlib.Core.Bool.{true, false, not}
+use mathlib.Core.Bool.{true, false}
 use Prim.Native.Nat.{ℕ, _+_, _<_}
 use native.Mathlib.Omega.{arith}
 use native.Mathlib.Numerals.{add-one}
 use mathlib.Core.List.{List}
 use lib.ListN.{length, set, length-set}
-use lib.Dec.{eqb, leb, ltb}
+use lib.Dec.{eqb, ltb}
 use borrow.Author.Tests.{eqb-true, ltb-false, leb-false, not-false}
+use Rattle.model.specs.Lists.{all}
 use Rattle.model.specs.Page.{wholeAt, blankAt}
 use Rattle.model.specs.Bytes.{bytes}
 use Rattle.model.specs.Zones.{entryOf}
-use Rattle.model.specs.Answers.{refused}
 use Rattle.model.specs.World.{World, Plan}
 use Rattle.model.specs.Frame.{isIdle}
-use Rattle.model.specs.Transactions.{cleanPages, nextPage, zoneShort, spent, dataBytes, loneMap, lonePlan, planLone, withVersion, withLast}
+use Rattle.model.specs.Transactions.{cleanPages, nextPage, zoneShort, spent, dataBytes, loneMap, lonePlan, planLone, withVersion, withLast, loneChecks}
 use Rattle.model.specs.Commands.{lone, plan, carried}
 use Rattle.model.specs.Book.{Book, holds, entering, changing}
 use Rattle.model.specs.Sequence.{fits}
 use Rattle.model.specs.declared.Place.{Place}
 use Rattle.model.specs.declared.Spare.{Spare}
 use Rattle.arrays.specs.Tests.{clash, and-right}
+use Rattle.arrays.specs.Order.{numbered, Unless}
 use Rattle.arrays.specs.Bytelist.{Bytes, bytes-true}
 use Rattle.arrays.specs.Image.{SpareFits}
 use Rattle.arrays.specs.Whole.{whole-not-blank}
@@ -35,7 +36,7 @@ use Rattle.sequence.specs.Contents.{contents-set}
 use Rattle.sequence.specs.Places.{placeAt}
 use Rattle.sequence.specs.Writes.{Laid, WholeSame, writes-keep}
 use Rattle.sequence.specs.Live.{Changing, Live, live-range, live-logged, scanned}
-use Rattle.sequence.specs.View.{View, yes, view-test, view-gate, idle-only, Keeps, done-live, view-keeps, idle-calm}
+use Rattle.sequence.specs.View.{View, yes, view-checks, idle-only, Keeps, done-live, view-keeps, idle-calm}
 use Rattle.sequence.specs.Append.{Appends, appends, appended, next-is-data, next-mapped, next-blank, next-free, append-whole, append-data, append-keeps}
 use Rattle.sequence.specs.Append.{append-tidy, rescanned, append-in, append-front, append-sound, append-contents}
 
@@ -114,13 +115,8 @@ pub record Lones (w : World) (lpn : ℕ) (d : List ℕ) (p : Plan) : Type 0 wher
   pub is : p ≡ lonePlan lpn d w
 
 pub lone-view : (lpn : ℕ) (d : List ℕ) (w : World) → View w (Lones w lpn d) (planLone lpn d w)
-unfolding planLone refused
-lone-view lpn d w =
-    view-gate w (Lones w lpn d) false _ (λ f i.
-    view-test w (Lones w lpn d) (not (eqb (length d) 512)) 11 _ refl (λ a.
-    view-test w (Lones w lpn d) (leb (w .state .geometry .logical) lpn) 5 _ refl (λ c.
-    view-test w (Lones w lpn d) (spent (w .state .version) 1) 13 _ refl (λ e.
-    view-test w (Lones w lpn d) (zoneShort w) 12 _ refl (λ z.
+unfolding planLone numbered all Unless
+lone-view lpn d w = view-checks w (Lones w lpn d) (lonePlan lpn d w) (loneChecks lpn d w) refl (λ f i a c e z.
     yes _ (record {
       idle = idle-only (isIdle (w .state .work)) i;
       long = eqb-true (length d) 512 (not-false (eqb (length d) 512) a);
@@ -128,7 +124,7 @@ lone-view lpn d w =
       more = e;
       room = z;
       is = refl;
-    }))))))
+    }))
 
 pub lone-live : (w : World) (b : Book) (lpn : ℕ) (d : List ℕ) → Live w b → Bytes d → Lones w lpn d (lonePlan lpn d w)
     → Live (carried (lonePlan lpn d w) w .world) (record { pages = set (b .pages) lpn (holds d); changes = b .changes })

@@ -15,6 +15,7 @@ use Rattle.model.specs.Geometry.{geometryOk, dataBlock}
 use Rattle.model.specs.Zones.{active, onPages, availableOf, cleanIn, usedIn, scanOf, zonesOf, freeIndex, pastBlock, takeOne, refill, zonesTaken, formatZones}
 use Rattle.model.specs.Answers.{refused}
 use Rattle.model.specs.World.{World, Plan, none, applyOp, isNone}
+use Rattle.model.specs.Order.{firstOf}
 use Rattle.model.specs.Frame.{freePlace, badId, mostPages, isIdle, gate, freshState}
 use Rattle.model.specs.Transactions.{placeOf, withPlace, cleanPages, nextPage, zoneShort, begun, liveId, planBegin, taking}
 use Rattle.model.specs.Transactions.{withLast, written, heldOp, heldState, writePlan, markPlan, planCommit}
@@ -87,7 +88,7 @@ module _ (w : World) (b : Book) (n : ℕ) (f : Filled w b n) where
   place-is = rw (at-0, f .places) refl
 
   passes : gate false w ≡ 0
-  unfolding gate
+  unfolding gate firstOf
   passes = rw (live-frame w b (f .live .world), f .idle) refl
 
   open-at : leb 8 i ≡ false
@@ -162,8 +163,8 @@ module _ (w : World) (b : Book) (n : ℕ) (f : Filled w b n) where
 
 -- ---- the commit of 64
 commit-answer : (w : World) (b : Book) → Filled w b 64 → exec (commit 1) w .answer ≡ 0
-unfolding exec carried plan planCommit markPlan
-commit-answer w b f = rw (passes w b 64 f, open-at w b 64 f, place-is w b 64 f, f .count, f .version, roomy w b 64 f (omega arith)) refl
+unfolding exec carried plan planCommit firstOf markPlan
+commit-answer w b f = rw (live-frame w b (f .live .world), f .idle, open-at w b 64 f, place-is w b 64 f, f .count, f .version, roomy w b 64 f (omega arith)) refl
 
 -- nothing runs, nor after it
 commit-runs : (w : World) → runsAfter (commit 1) w [] ≡ []
@@ -210,7 +211,7 @@ module _ (w : World) (s : Formatted flash w) where
   nothing-scanned = rw (starts .state) (scan-format flash (omega arith) (w .array) used)
 
   begins : planBegin 1 w ≡ record { answer = 0; op = none; map = w .map; hold = w .hold; state = withPlace (w .state) 0 (begun 1) }
-  unfolding planBegin gate badId liveId onPages active find any withNumber withZones freshState
+  unfolding planBegin firstOf badId liveId onPages active find any withNumber withZones freshState
   begins =
       rw (live-frame w (blank flash) (start-holds flash w s .here .world), formatted-idle flash w s, nothing-scanned, from-format (λ (t : State). t .places))
       refl

@@ -12,7 +12,8 @@ use lib.Dec.{eqb, leb}
 use borrow.Author.Tests.{eq-eqb, ne-eqb, leb-false, lt-leb, le-ltb, ltb-false}
 use Rattle.model.specs.Answers.{refused}
 use Rattle.model.specs.World.{World, Plan, applyOp}
-use Rattle.model.specs.Frame.{freePlace, noPlace, isIdle, gate}
+use Rattle.model.specs.Order.{firstOf}
+use Rattle.model.specs.Frame.{freePlace, noPlace, isIdle}
 use Rattle.model.specs.Transactions.{placeOf, withPlace, withVersion, withLast, cleanPages, markPlan, forgetPlan, planCommit}
 use Rattle.model.specs.Commands.{commit, plan, carried, exec}
 use Rattle.model.specs.Book.{Book, called, tell}
@@ -57,7 +58,7 @@ record Ready (w : World) (id : ℕ) : Type 0 where
   room : takes w id ≡ 1 → w .state .geometry .pages < cleanPages w
 
 ready-done : (w : World) (b : Book) (id : ℕ) → Live w b → Ready w id → exec (commit id) w .answer ≡ 0
-unfolding exec plan carried planCommit gate forgetPlan markPlan
+unfolding exec plan carried planCommit firstOf forgetPlan markPlan
 ready-done w b id h r = go (eqb-cases (many w id) 0)
   where
     go : Is (many w id) 0 → exec (commit id) w .answer ≡ 0

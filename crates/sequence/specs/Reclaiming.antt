@@ -2,7 +2,7 @@
 -- Cut at any bit, the array is sound with the same pages of the book.
 use mathlib.Core.Path.{_≡_, refl, sym, _∙_, subst}
 use mathlib.Core.Logic.{_⊎_, inl, inr, _≢_}
-use mathlib.Core.Bool.{Bool, true, false, _||_}
+use mathlib.Core.Bool.{Bool, true, false, _||_, not}
 use Prim.Native.Nat.{ℕ, suc, _+_, _-_, _*_, _≤_, _<_}
 use native.Mathlib.Omega.{arith}
 use native.Mathlib.Nat.{mul-le-mul-right}
@@ -10,15 +10,14 @@ use mathlib.Core.List.{List, [], _∷_}
 use lib.ListN.{length, getD, length-set}
 use lib.Dec.{eqb, leb, ltb}
 use borrow.Author.Tests.{eqb-true, eqb-false, ltb-false, leb-false, le-ltb}
-use Rattle.model.specs.Lists.{find, count}
+use Rattle.model.specs.Lists.{find, count, all}
 use Rattle.model.specs.Page.{pageAt, pageBytes, dataAt, wholeAt}
 use Rattle.model.specs.Geometry.{unmapped, dataBlock}
-use Rattle.model.specs.Answers.{refused}
 use Rattle.model.specs.World.{World, Plan, erase, applyOp, cutOp}
 use Rattle.model.specs.Frame.{isIdle}
 use Rattle.model.specs.Checkpoint.{Found, at}
 use Rattle.model.specs.Transactions.{cleanPages, nextPage, spent, dataBytes, loneMap, withVersion, withLast}
-use Rattle.model.specs.Strides.{withWork, withZones, isReclaim, mappedIn, picked, lowestFrom, copyStride, freeStride, reclaimStride, planReclaim}
+use Rattle.model.specs.Strides.{withWork, withZones, isReclaim, mappedIn, lowestFrom, copyStride, freeStride, reclaimStride, planReclaim, blockTaken, reclaimChecks}
 use Rattle.model.specs.Commands.{reclaim, plan, carried}
 use Rattle.model.specs.Book.{Book, entering, changing}
 use Rattle.model.specs.declared.Geometry.{Geometry}
@@ -26,6 +25,7 @@ use Rattle.model.specs.declared.Spare.{Spare}
 use Rattle.model.specs.declared.Work.{Work}
 use Rattle.model.specs.declared.Work.the-variants.{Idle, Format, Checkpoint, Reclaim}
 use Rattle.arrays.specs.Tests.{Is, eqb-cases, clash, decide}
+use Rattle.arrays.specs.Order.{numbered, Unless}
 use Rattle.arrays.specs.Bytelist.{Bytes}
 use Rattle.arrays.specs.Pages.{BlockFits, Outside, length-data, bytes-data, data-same}
 use Rattle.arrays.specs.Ranges.{block-is, block-most, page-small, any-page-fits, data-block-fits}
@@ -41,13 +41,12 @@ use Rattle.scanlog.specs.Shape.{Unlisted}
 use Rattle.scanlog.specs.Pick.{Fewest, Picked, inBlock, inside-block, picked-is, lowest, lowest-inside, lowest-found, lowest-at}
 use Rattle.scanlog.specs.Reclaim.{GoingOn, going-unlisted, going-copy, stride-goes, stride-going}
 use Rattle.scanlog.specs.Free.{grown-freed, tidy-freed, scan-freed}
-use Rattle.sequence.specs.Refused.{keeps-block}
 use Rattle.sequence.specs.Maps.{good-set, entry-in}
 use Rattle.sequence.specs.Contents.{contents-copy, mapped-whole}
 use Rattle.sequence.specs.Places.{placeAt}
 use Rattle.sequence.specs.Sound.{Sound, Stored}
 use Rattle.sequence.specs.Live.{Live, live-range, scanned}
-use Rattle.sequence.specs.View.{View, no, yes, view-gate, view-cond, Keeps, done-live, more-live, view-keeps}
+use Rattle.sequence.specs.View.{View, yes, view-checks, view-cond, Keeps, done-live, more-live, view-keeps}
 use Rattle.sequence.specs.Append.{appended, next-is-data, next-mapped, next-blank, next-free, append-ok, append-whole, append-data, append-keeps}
 use Rattle.sequence.specs.Append.{append-tidy, append-front, append-sound, append-contents, Appends, appends}
 use Rattle.sequence.specs.Lone.{changing-grow, laid-still, loneSpare, loneFits, lone-logged, lone-opens}
@@ -55,10 +54,10 @@ use Rattle.sequence.specs.Spared.{Spared, spared-changing, spared-sound,
 
 -- ---- the plan
 -- nothing is under way but a reclaim
-reclaim-calm : (k : Work) → (isIdle k || isReclaim k) ≡ true → calm k ≡ true
+reclaim-calm : (k : Work) → not (isIdle k || isReclaim k) ≡ false → calm k ≡ true
 reclaim-calm Idle h = refl
-reclaim-calm (Format k) h = h
-reclaim-calm (Checkpoint k) h = h
+reclaim-calm (Format k) h = clash refl h
+reclaim-calm (Checkpoint k) h = clash refl h
 reclaim-calm Reclaim h = refl
 
 -- what a stride does to the picked block c
@@ -67,25 +66,18 @@ pub data Reclaims (w : World) : Plan → Type 0 where
       → Reclaims w (copyStride (lowestFrom (w .map) (c * w .state .geometry .pages) (w .state .geometry .pages)) w)
   frees : (c : ℕ) → calm (w .state .work) ≡ true → GoingOn w c → mappedIn (w .map) (w .state .geometry .pages) c ≡ 0 → Reclaims w (freeStride c w)
 
-stride-view : (w : World) → w .state .version ≤ 4294967294 → calm (w .state .work) ≡ true → View w (Reclaims w) (reclaimStride w (picked w))
-stride-view w v calm′ = go (decide (refused (reclaimStride w (picked w) .answer)))
-  where
-    going : (c : ℕ) → GoingOn w c → View w (Reclaims w) (reclaimStride w (picked w))
-    going c h =
-        let due = mappedIn (w .map) (w .state .geometry .pages) c in
-        subst (View w (Reclaims w)) (sym (stride-goes w c h))
-        (view-cond w (Reclaims w) (eqb due 0) _ _ (λ z. yes _ (frees c calm′ h (eqb-true due 0 z))) (λ z.
-        let m : due ≢ 0 = eqb-false due 0 z in
-        yes _ (copies c calm′ h (omega arith))))
-
-    go : (refused (reclaimStride w (picked w) .answer) ≡ true) ⊎ (refused (reclaimStride w (picked w) .answer) ≡ false)
-        → View w (Reclaims w) (reclaimStride w (picked w))
-    go (inl r) = subst (View w (Reclaims w)) (sym (keeps-block w (picked w) .same r)) (no _ r)
-    go (inr r) = let h = stride-going w v r in going (h .0) (h .1)
+stride-view : (w : World) (c : ℕ) → GoingOn w c → calm (w .state .work) ≡ true → View w (Reclaims w) (reclaimStride w)
+stride-view w c h calm′ =
+    let due = mappedIn (w .map) (w .state .geometry .pages) c in
+    subst (View w (Reclaims w)) (sym (stride-goes w c h))
+    (view-cond w (Reclaims w) (eqb due 0) _ _ (λ z. yes _ (frees c calm′ h (eqb-true due 0 z))) (λ z.
+    let m : due ≢ 0 = eqb-false due 0 z in
+    yes _ (copies c calm′ h (omega arith))))
 
 pub reclaim-view : (w : World) → w .state .version ≤ 4294967294 → View w (Reclaims w) (planReclaim w)
-unfolding planReclaim
-reclaim-view w v = view-gate w (Reclaims w) (isReclaim (w .state .work)) _ (λ f i. stride-view w v (reclaim-calm (w .state .work) i))
+unfolding planReclaim numbered all Unless
+reclaim-view w v = view-checks w (Reclaims w) (reclaimStride w) (reclaimChecks w) refl (λ f i gain numbers reserve.
+    stride-view w (blockTaken w) (stride-going w v gain numbers reserve) (reclaim-calm (w .state .work) i))
 
 -- a count of none has no mapped page in it
 none-in : (p c : ℕ) (map : List ℕ) (k : ℕ) → 0 < occ k map → mappedIn map p c ≡ 0 → inBlock p c k ≡ false

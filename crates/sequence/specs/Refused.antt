@@ -1,20 +1,17 @@
 -- A refusal does nothing and keeps everything, whatever the command; a read never changes anything; a recover does nothing to the array.
 use Prim.Native.Nat.{ℕ}
 use mathlib.Core.Path.{_≡_, refl, ap}
-use mathlib.Core.Bool.{Bool, true, false, false≢true, not, cond}
+use mathlib.Core.Bool.{Bool, true, false, false≢true, cond}
 use mathlib.Core.List.{List}
 use lib.Dec.{eqb}
 use Rattle.model.specs.Answers.{refused}
-use Rattle.model.specs.Geometry.{mapPages}
 use Rattle.model.specs.World.{World, Op, none, Plan, refuse, applyOp}
-use Rattle.model.specs.Frame.{lentOk}
-use Rattle.model.specs.Checkpoint.{Found, nothing, at, newest, loadOk}
-use Rattle.model.specs.Recovery.{pagesGood}
-use Rattle.model.specs.Transactions.{unless, planBegin, addPlan, planWrite, planDrop, planLone, planCommit}
+use Rattle.model.specs.Order.{Check, firstOf, checked}
+use Rattle.model.specs.Transactions.{planBegin, planWrite, planDrop, planLone, planCommit, holds, beginChecks, writeChecks, dropChecks, loneChecks, commitChecks, abortChecks}
 use Rattle.model.specs.Transactions.{planAbort, writePlan, lonePlan, markPlan, forgetPlan}
-use Rattle.model.specs.Strides.{planCheckpoint, planReclaim, planFormat, mapStride, zoneStride, pageStride, otherStride, firstStride}
+use Rattle.model.specs.Strides.{planCheckpoint, planReclaim, planFormat, mapStride, zoneStride, pageStride, otherStride, firstStride, copiesDue, checkpointChecks, reclaimChecks, formatChecks}
 use Rattle.model.specs.Strides.{checkpointStride, copyStride, freeStride, reclaimStride, formatMore, formatLast, formatStride}
-use Rattle.model.specs.Recover.{planRecover, recoverFrom, recoverPlan, entriesAt, zonesAt, scannedAt}
+use Rattle.model.specs.Recover.{planRecover, recoverPlan, pageTaken, recoverChecks}
 use Rattle.model.specs.Commands.{Call, format, recover, begin, write, dropPage, lone, commit, abort, read, checkpoint, reclaim, plan, carried, exec}
 use Rattle.model.specs.declared.Geometry.{Geometry}
 use Rattle.model.specs.declared.State.{State}
@@ -33,8 +30,8 @@ module _ (w : World) where
   keeps-cond true hp hq = hp
   keeps-cond false hp hq = hq
 
-  keeps-unless : (n : ℕ) {p : Plan} → Keeps w p → Keeps w (unless n w p)
-  keeps-unless n hp = keeps-cond (eqb n 0) hp (keeps-refuse n)
+  keeps-checks : (cs : List Check) {p : Plan} → Keeps w p → Keeps w (checked cs w p)
+  keeps-checks cs hp = keeps-cond (eqb (firstOf cs) 0) hp (keeps-refuse (firstOf cs))
 
   keeps-done : {o : Op} {m h : List ℕ} {s : State} → Keeps w (record { answer = 0; op = o; map = m; hold = h; state = s })
   unfolding refused
@@ -46,27 +43,27 @@ module _ (w : World) where
 
   keeps-begin : (id : ℕ) → Keeps w (planBegin id w)
   unfolding planBegin
-  keeps-begin id = search (keeps-unless, keeps-cond, keeps-refuse, keeps-done) depth 9
+  keeps-begin id = keeps-checks (beginChecks id w) keeps-done
 
   keeps-write : (id lpn : ℕ) (d : List ℕ) → Keeps w (planWrite id lpn d w)
-  unfolding planWrite addPlan writePlan
-  keeps-write id lpn d = search (keeps-unless, keeps-cond, keeps-refuse, keeps-done) depth 9
+  unfolding planWrite writePlan
+  keeps-write id lpn d = keeps-checks (writeChecks id lpn d w) keeps-done
 
   keeps-drop : (id lpn : ℕ) → Keeps w (planDrop id lpn w)
-  unfolding planDrop addPlan writePlan
-  keeps-drop id lpn = search (keeps-unless, keeps-cond, keeps-refuse, keeps-done) depth 9
+  unfolding planDrop writePlan
+  keeps-drop id lpn = keeps-checks (dropChecks id lpn w) keeps-done
 
   keeps-lone : (lpn : ℕ) (d : List ℕ) → Keeps w (planLone lpn d w)
   unfolding planLone lonePlan
-  keeps-lone lpn d = search (keeps-unless, keeps-cond, keeps-refuse, keeps-done) depth 9
+  keeps-lone lpn d = keeps-checks (loneChecks lpn d w) keeps-done
 
   keeps-commit : (id : ℕ) → Keeps w (planCommit id w)
   unfolding planCommit forgetPlan markPlan
-  keeps-commit id = search (keeps-unless, keeps-cond, keeps-refuse, keeps-done) depth 9
+  keeps-commit id = keeps-checks (commitChecks id w) (keeps-cond (holds id w) keeps-done keeps-done)
 
   keeps-abort : (id : ℕ) → Keeps w (planAbort id w)
   unfolding planAbort forgetPlan
-  keeps-abort id = search (keeps-unless, keeps-cond, keeps-refuse, keeps-done) depth 9
+  keeps-abort id = keeps-checks (abortChecks id w) keeps-done
 
   keeps-page : (q i : ℕ) → Keeps w (pageStride q i w)
   unfolding pageStride mapStride zoneStride
@@ -81,29 +78,19 @@ module _ (w : World) where
 
   keeps-checkpoint : Keeps w (planCheckpoint w)
   unfolding planCheckpoint
-  keeps-checkpoint = search (keeps-unless, keeps-cond, keeps-refuse, keeps-stride)
-
-  pub keeps-block : (f : Found) → Keeps w (reclaimStride w f)
-  unfolding reclaimStride freeStride copyStride
-  keeps-block nothing = keeps-refuse 15
-  keeps-block (at b) = search (keeps-cond, keeps-refuse, keeps-done, keeps-more) depth 9
+  keeps-checkpoint = keeps-checks (checkpointChecks w) (keeps-stride (w .state .work))
 
   keeps-reclaim : Keeps w (planReclaim w)
-  unfolding planReclaim
-  keeps-reclaim = search (keeps-unless, keeps-block)
+  unfolding planReclaim reclaimStride freeStride copyStride
+  keeps-reclaim = keeps-checks (reclaimChecks w) (keeps-cond (eqb (copiesDue w) 0) keeps-done keeps-more)
 
   keeps-format : (g : Geometry) → Keeps w (planFormat g w)
   unfolding planFormat formatStride formatMore formatLast
-  keeps-format g = search (keeps-cond, keeps-refuse, keeps-done, keeps-more) depth 9
-
-  keeps-from : (g : Geometry) (f : Found) → Keeps w (recoverFrom g w f)
-  unfolding recoverFrom recoverPlan
-  keeps-from g nothing = keeps-refuse 2
-  keeps-from g (at k) = search (keeps-cond, keeps-refuse, keeps-done) depth 9
+  keeps-format g = keeps-checks (formatChecks g w) (search (keeps-cond, keeps-done, keeps-more) depth 9)
 
   keeps-recover : (g : Geometry) → Keeps w (planRecover g w)
-  unfolding planRecover
-  keeps-recover g = search (keeps-cond, keeps-from, keeps-refuse)
+  unfolding planRecover recoverPlan
+  keeps-recover g = keeps-checks (recoverChecks g w) keeps-done
 
   pub keeps-plan : (c : Call) → Keeps w (plan c w)
   unfolding plan
@@ -130,21 +117,10 @@ unfolding exec plan carried applyOp
 read-same lpn w = refl
 
 -- ---- recover "programs nothing"
-from-none : (g : Geometry) (w : World) (f : Found) → recoverFrom g w f .op ≡ none
-unfolding recoverFrom recoverPlan
-from-none g w nothing = refl
-from-none g w (at k) =
-    go (not (loadOk g (entriesAt g (w .array) k) (zonesAt g (w .array) k))) (not (pagesGood (g .planes) (g .logical) (scannedAt g (w .array) k)))
-  where
-    go : (s t : Bool) → cond s (refuse w 3) (cond t (refuse w 4) (recoverPlan g k w)) .op ≡ none
-    go true t = refl
-    go false true = refl
-    go false false = refl
-
 pub recover-none : (g : Geometry) (w : World) → plan (recover g) w .op ≡ none
-unfolding plan planRecover
-recover-none g w = go (lentOk g w) (newest (w .array) (mapPages g) (g .pages))
+unfolding plan planRecover recoverPlan
+recover-none g w = go (eqb (firstOf (recoverChecks g w)) 0)
   where
-    go : (t : Bool) (f : Found) → cond t (recoverFrom g w f) (refuse w 1) .op ≡ none
-    go true f = from-none g w f
-    go false f = refl
+    go : (t : Bool) → cond t (recoverPlan g (pageTaken g w) w) (refuse w (firstOf (recoverChecks g w))) .op ≡ none
+    go true = refl
+    go false = refl

@@ -5,10 +5,10 @@ use Prim.Native.Nat.{ℕ}
 use mathlib.Core.List.{List}
 use lib.Dec.{eqb}
 use Rattle.model.specs.World.{World, Op, Plan, refuse}
-use Rattle.model.specs.Checkpoint.{Found, nothing, at}
-use Rattle.model.specs.Transactions.{unless, withPlace, withVersion, planBegin, addPlan, planWrite, planDrop, planLone, planCommit, planAbort}
+use Rattle.model.specs.Order.{Check, firstOf, checked}
+use Rattle.model.specs.Transactions.{withPlace, withVersion, planBegin, planWrite, planDrop, planLone, planCommit, planAbort, placeWith, holds, beginChecks, writeChecks, dropChecks, loneChecks, commitChecks, abortChecks}
 use Rattle.model.specs.Transactions.{writePlan, lonePlan, markPlan, forgetPlan, withLast, taking, heldState}
-use Rattle.model.specs.Strides.{withWork, withZones, withNumber, planCheckpoint, planReclaim, mapStride, zoneStride, pageStride}
+use Rattle.model.specs.Strides.{withWork, withZones, withNumber, planCheckpoint, planReclaim, mapStride, zoneStride, pageStride, copiesDue, checkpointChecks, reclaimChecks}
 use Rattle.model.specs.Strides.{otherStride, firstStride, checkpointStride, copyStride, freeStride, reclaimStride}
 use Rattle.model.specs.declared.State.{State}
 use Rattle.model.specs.declared.Place.{Place}
@@ -27,8 +27,8 @@ module _ (w : World) where
   same-cond true hp hq = hp
   same-cond false hp hq = hq
 
-  same-unless : (n : ℕ) {p : Plan} → SameShape w p → SameShape w (unless n w p)
-  same-unless n hp = same-cond (eqb n 0) hp (same-refuse n)
+  same-checks : (cs : List Check) {p : Plan} → SameShape w p → SameShape w (checked cs w p)
+  same-checks cs hp = same-cond (eqb (firstOf cs) 0) hp (same-refuse (firstOf cs))
 
   same-done : {a : ℕ} {o : Op} {m h : List ℕ} {s : State} → s .geometry ≡ w .state .geometry
       → SameShape w (record { answer = a; op = o; map = m; hold = h; state = s })
@@ -36,7 +36,7 @@ module _ (w : World) where
 
   pub same-begin : (id : ℕ) → SameShape w (planBegin id w)
   unfolding planBegin withPlace
-  same-begin id = search (same-unless, same-cond, same-refuse, same-done) depth 9
+  same-begin id = same-checks (beginChecks id w) (same-done refl)
 
   -- a field that is not the last plane
   pub held-same : {A : Type 0} (of : State → A) (p : Place) → of (taking w) ≡ of (w .state) → of (heldState w p) ≡ of (w .state)
@@ -52,24 +52,24 @@ module _ (w : World) where
   held-shape p = held-same (λ (s : State). s .geometry) p refl
 
   pub same-write : (id lpn : ℕ) (d : List ℕ) → SameShape w (planWrite id lpn d w)
-  unfolding planWrite addPlan writePlan withPlace
-  same-write id lpn d = search (same-unless, same-cond, same-refuse, same-done, held-shape) depth 9
+  unfolding planWrite writePlan withPlace
+  same-write id lpn d = same-checks (writeChecks id lpn d w) (same-done (held-shape (placeWith id w)))
 
   pub same-drop : (id lpn : ℕ) → SameShape w (planDrop id lpn w)
-  unfolding planDrop addPlan writePlan withPlace
-  same-drop id lpn = search (same-unless, same-cond, same-refuse, same-done, held-shape) depth 9
+  unfolding planDrop writePlan withPlace
+  same-drop id lpn = same-checks (dropChecks id lpn w) (same-done (held-shape (placeWith id w)))
 
   pub same-lone : (lpn : ℕ) (d : List ℕ) → SameShape w (planLone lpn d w)
   unfolding planLone lonePlan withVersion withLast
-  same-lone lpn d = search (same-unless, same-cond, same-refuse, same-done) depth 9
+  same-lone lpn d = same-checks (loneChecks lpn d w) (same-done refl)
 
   pub same-commit : (id : ℕ) → SameShape w (planCommit id w)
   unfolding planCommit forgetPlan markPlan withPlace withVersion withLast
-  same-commit id = search (same-unless, same-cond, same-refuse, same-done) depth 9
+  same-commit id = same-checks (commitChecks id w) (same-cond (holds id w) (same-done refl) (same-done refl))
 
   pub same-abort : (id : ℕ) → SameShape w (planAbort id w)
   unfolding planAbort forgetPlan withPlace
-  same-abort id = search (same-unless, same-cond, same-refuse, same-done) depth 9
+  same-abort id = same-checks (abortChecks id w) (same-done refl)
 
   same-page : (q i : ℕ) → SameShape w (pageStride q i w)
   unfolding pageStride mapStride zoneStride withWork withZones withNumber
@@ -84,13 +84,8 @@ module _ (w : World) where
 
   pub same-checkpoint : SameShape w (planCheckpoint w)
   unfolding planCheckpoint
-  same-checkpoint = search (same-unless, same-cond, same-refuse, same-stride)
-
-  same-block : (f : Found) → SameShape w (reclaimStride w f)
-  unfolding reclaimStride freeStride copyStride withWork withZones withVersion withLast
-  same-block nothing = same-refuse 15
-  same-block (at b) = search (same-cond, same-refuse, same-done) depth 9
+  same-checkpoint = same-checks (checkpointChecks w) (same-stride (w .state .work))
 
   pub same-reclaim : SameShape w (planReclaim w)
-  unfolding planReclaim
-  same-reclaim = search (same-unless, same-block)
+  unfolding planReclaim reclaimStride freeStride copyStride withWork withZones withVersion withLast
+  same-reclaim = same-checks (reclaimChecks w) (same-cond (eqb (copiesDue w) 0) (same-done refl) (same-done refl))

@@ -2,17 +2,17 @@
 use mathlib.Core.Path.{_≡_, refl, sym, ap, _∙_, subst}
 use mathlib.Core.Bool.{Bool, true, false, cond}
 use Prim.Native.Nat.{ℕ}
-use native.Mathlib.Omega.{arith}
 use mathlib.Core.List.{List, []}
+use Rattle.model.specs.Lists.{all}
 use lib.ListN.{length}
 use lib.Dec.{eqb}
-use Rattle.model.specs.World.{World, Plan, refuse}
+use borrow.Author.Tests.{not-false}
+use Rattle.model.specs.World.{World, Plan}
 use Rattle.model.specs.Frame.{lentOk}
-use Rattle.model.specs.Recover.{planRecover, recoverFrom}
+use Rattle.model.specs.Recover.{planRecover, recoverChecks, recoverPlan, pageTaken}
 use Rattle.model.specs.Transactions.{planBegin, planWrite, planDrop, planLone, planCommit, planAbort}
 use Rattle.model.specs.Strides.{planCheckpoint, planReclaim}
-use Rattle.model.specs.Checkpoint.{at, newest}
-use Rattle.model.specs.Geometry.{mapPages}
+use Rattle.model.specs.Checkpoint.{at}
 use Rattle.model.specs.Commands.{Call, format, recover, begin, write, dropPage, lone, commit, abort, read, checkpoint, reclaim, plan, carried, exec, Outcome}
 use Rattle.model.specs.Book.{Book, Event, called, blank, tell, story, entering, changing}
 use Rattle.model.specs.Sequence.{fits, Running, Phase, live, dark, arrayOf, Allowed, cutEvent, cutArray, earlyEvent, earlyArray}
@@ -22,6 +22,7 @@ use Rattle.model.specs.declared.Geometry.{Geometry}
 use Rattle.model.specs.declared.State.{State}
 use Rattle.model.specs.Zones.{Entry}
 use Rattle.arrays.specs.Frame.{lent-lengths}
+use Rattle.arrays.specs.Order.{numbered, Unless, none-applies, done-first}
 use Rattle.front.specs.Written.{Saved}
 use Rattle.front.specs.Recovered.{stateOf}
 use Rattle.front.specs.FormatReads.{format-reads}
@@ -95,12 +96,9 @@ module _ (g : Geometry) (xs : List ℕ) (b : Book) (s : Stored g xs (b .pages)) 
 
 -- a recover that is done was handed buffers of the right lengths
 recover-lent : (g : Geometry) (w : World) → exec (recover g) w .answer ≡ 0 → lentOk g w ≡ true
-unfolding exec plan carried planRecover
-recover-lent g w e = go (lentOk g w) e
-  where
-    go : (t : Bool) → cond t (recoverFrom g w (newest (w .array) (mapPages g) (g .pages))) (refuse w 1) .answer ≡ 0 → t ≡ true
-    go true e = refl
-    go false e = absurd (omega (arith, e))
+unfolding exec plan carried planRecover numbered all Unless
+recover-lent g w e =
+    none-applies (recoverChecks g w) refl (done-first (recoverChecks g w) w (recoverPlan g (pageTaken g w) w) e) (λ l n c p. not-false (lentOk g w) l)
 
 -- the book after it
 recover-told : (g : Geometry) (b : Book) (n : ℕ) → n ≡ 0 → tell b (called (recover g) n) ≡ closedBook b

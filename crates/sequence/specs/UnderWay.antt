@@ -2,21 +2,22 @@
 -- further stride is refused; each stride of a reclaim picks the same block.
 use mathlib.Core.Path.{_≡_, refl, sym, ap, _∙_, subst}
 use mathlib.Core.Bool.{Bool, true, false, false≢true, not, cond}
-use mathlib.Core.List.{List}
+use mathlib.Core.List.{List, _∷_}
+use Rattle.model.specs.Lists.{those, all}
 use Prim.Native.Nat.{ℕ, _*_}
 use native.Mathlib.Omega.{arith}
 use lib.Dec.{eqb, ltb}
 use Rattle.model.specs.Geometry.{mapPages}
-use Rattle.model.specs.Checkpoint.{Found, nothing, at, loadOk}
+use Rattle.model.specs.Checkpoint.{at}
 use Rattle.model.specs.Answers.{refused}
 use Rattle.model.specs.World.{World, Plan, refuse, applyOp}
-use Rattle.model.specs.Frame.{lentOk, frameOk, isIdle, gate}
-use Rattle.model.specs.Recovery.{pagesGood}
-use Rattle.model.specs.Recover.{entriesAt, zonesAt, scannedAt, planRecover, recoverFrom, recoverPlan, recoveredState}
-use Rattle.model.specs.Transactions.{gone, unless, withPlace, withVersion, planBegin, planWrite, planDrop, planLone, planCommit}
+use Rattle.model.specs.Order.{Check, firstOf, leaveOut, checked}
+use Rattle.model.specs.Frame.{frameOk, isIdle, badFrame, busy}
+use Rattle.model.specs.Recover.{planRecover, recoverPlan, recoveredState, pageTaken, recoverChecks}
+use Rattle.model.specs.Transactions.{gone, withPlace, withVersion, planBegin, planWrite, planDrop, planLone, planCommit}
 use Rattle.model.specs.Transactions.{planAbort, writePlan, lonePlan, markPlan, forgetPlan, withLast}
 use Rattle.model.specs.Strides.{isCheckpoint, isReclaim, withWork, withZones, withNumber, mappedIn, picked, lowestFrom, mapStride, zoneStride, pageStride}
-use Rattle.model.specs.Strides.{otherStride, copyStride, freeStride, reclaimStride, planCheckpoint, planReclaim}
+use Rattle.model.specs.Strides.{otherStride, copyStride, freeStride, planCheckpoint, planReclaim}
 use Rattle.model.specs.Commands.{Call, format, recover, begin, write, dropPage, lone, commit, abort, read, checkpoint, reclaim, plan, carried, exec}
 use Rattle.model.specs.Book.{Book}
 use Rattle.model.specs.Sequence.{Allowed}
@@ -25,14 +26,14 @@ use Rattle.model.specs.declared.Place.{Place}
 use Rattle.model.specs.declared.State.{State}
 use Rattle.model.specs.declared.Work.{Work}
 use Rattle.model.specs.declared.Work.the-variants.{Idle, Format, Checkpoint, Reclaim}
-use Rattle.arrays.specs.Tests.{clash}
-use Rattle.arrays.specs.Frame.{gate-own}
+use Rattle.arrays.specs.Tests.{clash, or-right}
+use Rattle.arrays.specs.Order.{numbered, Unless}
 use Rattle.front.specs.CheckpointStrides.{Stride, refuses, erases, maps, zones, checkpoint-stride, checkpoint-goes-on}
-use Rattle.scanlog.specs.Reclaim.{GoingOn, stride-goes}
+use Rattle.scanlog.specs.Reclaim.{GoingOn, stride-goes, going-passes}
 use Rattle.sequence.specs.Refused.{refused-same, read-same}
 use Rattle.sequence.specs.SameShape.{held-same}
 use Rattle.sequence.specs.Live.{Live, live-frame}
-use Rattle.sequence.specs.View.{View, no, yes, view-test, view-cond, view-map}
+use Rattle.sequence.specs.View.{View, no, yes, view-checks, view-map}
 use Rattle.sequence.specs.Begin.{begin-view}
 use Rattle.sequence.specs.Abort.{abort-view}
 use Rattle.sequence.specs.Lone.{lone-view}
@@ -61,11 +62,12 @@ GoesOn w = isReclaim (w .state .work) ≡ true → (c : ℕ) × GoingOn w c
 
 -- ---- other calls
 -- refusals 1 and 17 while another's work is under way
-busy-plan : (own : Bool) (w : World) (p : Plan) → isIdle (w .state .work) ≡ false → own ≡ false → unless (gate own w) w p ≡ refuse w (gate own w)
-unfolding gate
-busy-plan own w p i o = rw (i, o) (go (frameOk w))
+busy-plan : (own : Bool) (w : World) (cs : List Check) (p : Plan) → isIdle (w .state .work) ≡ false → own ≡ false
+    → checked (badFrame w ∷ busy own w ∷ cs) w p ≡ refuse w (firstOf (badFrame w ∷ busy own w ∷ cs))
+unfolding firstOf
+busy-plan own w cs p i o = rw (i, o) (go (frameOk w))
   where
-    go : (f : Bool) → cond (eqb (cond f 17 1) 0) p (refuse w (cond f 17 1)) ≡ refuse w (cond f 17 1)
+    go : (f : Bool) → cond (eqb (cond (not f) 1 17) 0) p (refuse w (cond (not f) 1 17)) ≡ refuse w (cond (not f) 1 17)
     go true = refl
     go false = refl
 
@@ -79,18 +81,18 @@ not-own false h = refl
 
 -- "busy: another multi-stride command is under way": the world is as it was
 pub busy-same : (c : Call) (w : World) → isIdle (w .state .work) ≡ false → another c (w .state .work) ≡ true → exec c w .world ≡ w
-unfolding plan planBegin planWrite planDrop planLone planCommit planAbort planCheckpoint planReclaim
+unfolding plan planBegin planWrite planDrop leaveOut those planLone planCommit planAbort planCheckpoint planReclaim
 busy-same (format g) w i a = absurd (false≢true a)
 busy-same (recover g) w i a = absurd (false≢true a)
-busy-same (begin id) w i a = refuse-same (begin id) w _ (busy-plan false w _ i refl)
-busy-same (write id lpn d) w i a = refuse-same (write id lpn d) w _ (busy-plan false w _ i refl)
-busy-same (dropPage id lpn) w i a = refuse-same (dropPage id lpn) w _ (busy-plan false w _ i refl)
-busy-same (lone lpn d) w i a = refuse-same (lone lpn d) w _ (busy-plan false w _ i refl)
-busy-same (commit id) w i a = refuse-same (commit id) w _ (busy-plan false w _ i refl)
-busy-same (abort id) w i a = refuse-same (abort id) w _ (busy-plan false w _ i refl)
+busy-same (begin id) w i a = refuse-same (begin id) w _ (busy-plan false w _ _ i refl)
+busy-same (write id lpn d) w i a = refuse-same (write id lpn d) w _ (busy-plan false w _ _ i refl)
+busy-same (dropPage id lpn) w i a = refuse-same (dropPage id lpn) w _ (busy-plan false w _ _ i refl)
+busy-same (lone lpn d) w i a = refuse-same (lone lpn d) w _ (busy-plan false w _ _ i refl)
+busy-same (commit id) w i a = refuse-same (commit id) w _ (busy-plan false w _ _ i refl)
+busy-same (abort id) w i a = refuse-same (abort id) w _ (busy-plan false w _ _ i refl)
 busy-same (read lpn) w i a = read-same lpn w
-busy-same checkpoint w i a = refuse-same checkpoint w _ (busy-plan (isCheckpoint (w .state .work)) w _ i (not-own _ a))
-busy-same reclaim w i a = refuse-same reclaim w _ (busy-plan (isReclaim (w .state .work)) w _ i (not-own _ a))
+busy-same checkpoint w i a = refuse-same checkpoint w _ (busy-plan (isCheckpoint (w .state .work)) w _ _ i (not-own _ a))
+busy-same reclaim w i a = refuse-same reclaim w _ (busy-plan (isReclaim (w .state .work)) w _ _ i (not-own _ a))
 
 -- ---- a checkpoint under way
 page-goes : (q i : ℕ) (w : World) → refused (pageStride q i w .answer) ≡ false
@@ -115,16 +117,18 @@ checkpoint-not-refused w b h i = go (w .state .work) refl i
 -- ---- a reclaim under way
 -- its next stride is not refused
 pub reclaim-not-refused : (w : World) (b : Book) → Live w b → GoesOn w → isReclaim (w .state .work) ≡ true → refused (exec reclaim w .answer) ≡ false
-unfolding exec carried plan planReclaim
-reclaim-not-refused w b h on i = rw (i, gate-own w (live-frame w b h)) (goes (on i .0) (on i .1))
+unfolding exec carried plan
+reclaim-not-refused w b h on i = goes (on i .0) (on i .1)
   where
     either : (c : ℕ) (t : Bool) → refused (cond t (freeStride c w)
         (copyStride (lowestFrom (w .map) (c * w .state .geometry .pages) (w .state .geometry .pages)) w) .answer) ≡ false
     either c true = unfold freeStride refused in refl
     either c false = unfold copyStride refused in refl
 
-    goes : (c : ℕ) → GoingOn w c → refused (reclaimStride w (picked w) .answer) ≡ false
-    goes c r = rw (stride-goes w c r) (either c (eqb (mappedIn (w .map) (w .state .geometry .pages) c) 0))
+    goes : (c : ℕ) → GoingOn w c → refused (planReclaim w .answer) ≡ false
+    goes c r =
+        rw (going-passes w c r (live-frame w b h) (or-right (isIdle (w .state .work)) (isReclaim (w .state .work)) i), stride-goes w c r)
+        (either c (eqb (mappedIn (w .map) (w .state .geometry .pages) c) 0))
 
 -- no reclaim is under way in what a plan leaves
 abbrev Rests : Plan → Type 0
@@ -150,17 +154,9 @@ write-rests : (w : World) (i : ℕ) (p : Place) (lpn : ℕ) (drop : Bool) (d : L
 unfolding writePlan withPlace withLast
 write-rests w i p lpn drop d h = rw (held-same w (λ (s : State). s .work) p refl) (idle-rests (w .state .work) h)
 
-from-rests : (g : Geometry) (w : World) (f : Found) → View w Rests (recoverFrom g w f)
-unfolding recoverFrom refused
-from-rests g w nothing = no 2 refl
-from-rests g w (at k) =
-    view-test w Rests (not (loadOk g (entriesAt g (w .array) k) (zonesAt g (w .array) k))) 3 _ refl (λ a.
-    view-test w Rests (not (pagesGood (g .planes) (g .logical) (scannedAt g (w .array) k))) 4 _ refl
-    (λ c. yes (recoverPlan g k w) (unfold recoverPlan recoveredState in refl)))
-
 recover-rests : (g : Geometry) (w : World) → View w Rests (planRecover g w)
-unfolding planRecover
-recover-rests g w = view-cond w Rests (lentOk g w) _ _ (λ l. from-rests g w _) (λ l. no 1 (unfold refused in refl))
+unfolding planRecover recoverPlan recoveredState numbered all Unless
+recover-rests g w = view-checks w Rests (recoverPlan g (pageTaken g w) w) (recoverChecks g w) refl (λ l n c p. yes _ refl)
 
 -- by what a call plans
 goes-after : (c : Call) (w : World) → GoesOn w → View w Rests (plan c w) → GoesOn (exec c w .world)

@@ -1,7 +1,7 @@
 -- A write or a drop keeps the world live: the page held before is programmed without a mark, and the new one is held.
 use mathlib.Core.Path.{_≡_, refl, sym, ap, _∙_, subst}
 use mathlib.Core.Logic.{_⊎_, inl, inr, _≢_}
-use mathlib.Core.Bool.{Bool, true, false, not, cond, _&&_}
+use mathlib.Core.Bool.{Bool, true, false, not, cond}
 use Prim.Native.Nat.{ℕ, _-_, _<_}
 use native.Mathlib.Omega.{arith}
 use mathlib.Core.List.{List, [], _∷_, _++_}
@@ -9,15 +9,16 @@ use lib.ListN.{length, set, length-set, length-replicate}
 use lib.Seq.{getD-set-same, getD-set-other}
 use lib.Dec.{eqb, leb, ltb}
 use borrow.Author.Tests.{eqb-true, ne-eqb, ltb-true, leb-false, not-false}
+use Rattle.model.specs.Lists.{those, all}
 use Rattle.model.specs.Bytes.{bytes}
 use Rattle.model.specs.Geometry.{unmapped, dataPage}
 use Rattle.model.specs.Zones.{Entry, entryOf, scanOf}
 use Rattle.model.specs.Recovery.{ofId}
-use Rattle.model.specs.Answers.{refused}
 use Rattle.model.specs.World.{World, Plan, none, program, applyOp}
+use Rattle.model.specs.Order.{leaveOut}
 use Rattle.model.specs.Frame.{noPlace, badId, mostPages, isIdle}
 use Rattle.model.specs.Transactions.{placeOf, withPlace, cleanPages, nextPage, zoneShort, pageKind, changeBytes, heldAt, holdWith, heldPage, heldDrop}
-use Rattle.model.specs.Transactions.{longestChange, written, heldOp, writePlan, addPlan, planWrite, gone, planDrop, withLast, taking, numberOf, heldState}
+use Rattle.model.specs.Transactions.{placeWith, holds, badLogicalPage, notBegun, tooLong, shortZone, writeChecks, dropChecks, longestChange, written, heldOp, writePlan, addPlan, planWrite, gone, planDrop, withLast, taking, numberOf, heldState}
 use Rattle.model.specs.Commands.{Call, write, dropPage, plan, carried, exec}
 use Rattle.model.specs.Book.{Book, Write, called, entering, changing, tell, writesOf, addTo}
 use Rattle.model.specs.Sequence.{fits}
@@ -27,6 +28,7 @@ use Rattle.model.specs.declared.Plane.{Plane}
 use Rattle.model.specs.declared.State.{State}
 use Rattle.model.specs.declared.Spare.{Spare}
 use Rattle.arrays.specs.Tests.{Is, eqb-cases, and-right}
+use Rattle.arrays.specs.Order.{numbered, Unless}
 use Rattle.arrays.specs.Bytelist.{Bytes, bytes-true, bytes-replicate}
 use Rattle.arrays.specs.Image.{SpareFits}
 use Rattle.front.specs.Newest.{SameFront}
@@ -44,7 +46,7 @@ use Rattle.sequence.specs.OpenBook.{isOpen, add-own, add-other, add-open
 use Rattle.sequence.specs.Writes.{Writes, WholeSame, writes-keep, writes-more, hold-own, hold-other, hold-long, held-long}
 use Rattle.sequence.specs.Sound.{Sound}
 use Rattle.sequence.specs.Live.{Live, live-range, live-logged, scanned}
-use Rattle.sequence.specs.View.{View, no, yes, view-test, view-gate, idle-only, after, told-refused, Keeps, idle-calm}
+use Rattle.sequence.specs.View.{View, no, yes, view-checks, idle-only, after, told-refused, Keeps, idle-calm}
 use Rattle.sequence.specs.SameShape.{held-shape}
 use Rattle.sequence.specs.Abort.{found-apart}
 use Rattle.sequence.specs.Lone.{room-clean}
@@ -61,16 +63,12 @@ pub record WritesTo (w : World) (id lpn : ℕ) (drop : Bool) (d : List ℕ) (p :
   pub clean : placeAt (w .state .places) (placeOf (w .state .places) id) .count ≢ 0 → zoneShort w ≡ false
   pub is : p ≡ writePlan (placeOf (w .state .places) id) (placeAt (w .state .places) (placeOf (w .state .places) id)) lpn drop d w
 
-add-view : (id lpn : ℕ) (drop : Bool) (d : List ℕ) (w : World) → isIdle (w .state .work) ≡ true → length d ≡ 512
+-- where none of 5, 8, 10 and 12 applies
+adds : (id lpn : ℕ) (drop : Bool) (d : List ℕ) (w : World) → isIdle (w .state .work) ≡ true → length d ≡ 512 → badLogicalPage lpn w .when ≡ false
+    → notBegun id w .when ≡ false → tooLong id w .when ≡ false → shortZone (holds id w) w .when ≡ false
     → View w (WritesTo w id lpn drop d) (addPlan id lpn drop d w)
-unfolding addPlan refused
-add-view id lpn drop d w i long =
-    let j = placeOf (w .state .places) id in
-    let p = placeAt (w .state .places) j in
-    view-test w (WritesTo w id lpn drop d) (leb (w .state .geometry .logical) lpn) 5 _ refl (λ c.
-    view-test w (WritesTo w id lpn drop d) (leb 8 j) 8 _ refl (λ e.
-    view-test w (WritesTo w id lpn drop d) (leb longestChange (p .count)) 10 _ refl (λ z.
-    view-test w (WritesTo w id lpn drop d) (not (eqb (p .count) 0) && zoneShort w) 12 _ refl (λ y.
+adds id lpn drop d w i long c e z y =
+    let p = placeWith id w in
     yes _ (record {
       idle = i;
       long = long;
@@ -79,14 +77,12 @@ add-view id lpn drop d w i long =
       room = (let h = leb-false longestChange (p .count) z in omega (arith, most-room (w .state .geometry) .0));
       clean = λ n. let t : not (eqb (p .count) 0) ≡ true = ap not (ne-eqb (p .count) 0 n) in rw t at y;
       is = refl;
-    })))))
+    })
 
 pub write-view : (id lpn : ℕ) (d : List ℕ) (w : World) → View w (WritesTo w id lpn false d) (planWrite id lpn d w)
-unfolding planWrite refused
-write-view id lpn d w =
-    view-gate w (WritesTo w id lpn false d) false _ (λ f o.
-    view-test w (WritesTo w id lpn false d) (not (eqb (length d) 512)) 11 _ refl (λ a.
-    add-view id lpn false d w (idle-only (isIdle (w .state .work)) o) (eqb-true (length d) 512 (not-false (eqb (length d) 512) a))))
+unfolding planWrite numbered all Unless
+write-view id lpn d w = view-checks w (WritesTo w id lpn false d) (addPlan id lpn false d w) (writeChecks id lpn d w) refl (λ f o a.
+    adds id lpn false d w (idle-only (isIdle (w .state .work)) o) (eqb-true (length d) 512 (not-false (eqb (length d) 512) a)))
 
 -- the data of a drop
 gone-long : length gone ≡ 512
@@ -98,8 +94,9 @@ unfolding gone
 gone-small = bytes-replicate 512 255 (omega arith)
 
 pub drop-view : (id lpn : ℕ) (w : World) → View w (WritesTo w id lpn true gone) (planDrop id lpn w)
-unfolding planDrop
-drop-view id lpn w = view-gate w (WritesTo w id lpn true gone) false _ (λ f o. add-view id lpn true gone w (idle-only (isIdle (w .state .work)) o) gone-long)
+unfolding planDrop leaveOut those numbered all Unless
+drop-view id lpn w = view-checks w (WritesTo w id lpn true gone) (addPlan id lpn true gone w) (dropChecks id lpn w) refl (λ f o.
+    adds id lpn true gone w (idle-only (isIdle (w .state .work)) o) gone-long)
 
 pub kind-small : (drop : Bool) → pageKind drop < 256
 kind-small true = omega arith

@@ -1,4 +1,4 @@
--- Format and recover: what they plan, a test after the other, and what a stride or the recovery may count on behind them. Assumes nothing.
+-- Format and recover: what their checks give, and what a stride or the recovery may count on behind them. Assumes nothing.
 use Prim.Native.Nat.{ℕ, _*_, _≤_}
 use mathlib.Core.Path.{_≡_, sym, _∙_}
 use mathlib.Core.Bool.{Bool, true, false, not, _&&_}
@@ -7,28 +7,29 @@ use lib.ListN.{length}
 use borrow.Author.Tests.{not-true, not-false}
 use Rattle.model.specs.Geometry.{geometryOk, lengthsOk, mapPages}
 use Rattle.model.specs.World.{World, refuse}
+use Rattle.model.specs.Order.{firstOf}
 use Rattle.model.specs.Frame.{lentOk}
 use Rattle.model.specs.Checkpoint.{Found, nothing, at, newest}
-use Rattle.model.specs.Strides.{stridesDone, formatWorkOk, formatStride, planFormat}
-use Rattle.model.specs.Recover.{recoverFrom, planRecover}
-use Rattle.model.specs.Commands.{plan, format, recover}
+use Rattle.model.specs.Strides.{formatWorkOk, formatChecks}
+use Rattle.model.specs.Recover.{planRecover}
+use Rattle.model.specs.Commands.{plan, recover}
 use Rattle.model.specs.declared.Geometry.{Geometry}
 use Rattle.arrays.specs.Tests.{and-left, and-right}
 use Rattle.arrays.specs.Ranges.{geometry-in, InLengths, lengths-in, maps-few, front-fits}
 use Rattle.frame.specs.Lent.{Sized}
 use Rattle.checkpoint.proofs.Search.{newest-fits}
-use Rattle.recover.specs.Recovering.{Standing}
+use Rattle.recover.specs.Recovering.{Standing, fromPlan}
 
 -- lent and ok being what their tests say
 module _ (g : Geometry) (w : World) (lent : Bool) (e : lent ≡ (geometryOk g && lengthsOk g (w .array) (w .map) (w .hold))) where
-  pub format-not-lent : not lent ≡ true → plan (format g) w ≡ refuse w 1
-  unfolding plan planFormat lentOk
+  pub format-not-lent : not lent ≡ true → 1 ≡ firstOf (formatChecks g w)
+  unfolding firstOf lentOk
   format-not-lent z = rw (← e, not-true lent z)
 
   module _ (z : not lent ≡ false) where
-    pub format-lent : lentOk g w ≡ true
+    lent-ok : lentOk g w ≡ true
     unfolding lentOk
-    format-lent = sym e ∙ not-false lent z
+    lent-ok = sym e ∙ not-false lent z
 
     pub format-sized : Sized g (w .array)
     format-sized =
@@ -36,19 +37,16 @@ module _ (g : Geometry) (w : World) (lent : Bool) (e : lent ≡ (geometryOk g &&
         record { shape = and-left (geometryOk g) _ h; bytes = lengths-in g (w .array) (w .map) (w .hold) (and-right (geometryOk g) _ h) .array }
 
     module _ (ok : Bool) (o : ok ≡ formatWorkOk g w (w .state .work)) where
-      pub format-bad-work : not ok ≡ true → plan (format g) w ≡ refuse w 1
-      unfolding plan planFormat
-      format-bad-work y = rw (format-lent, ← o, not-true ok y)
+      pub format-bad-work : not ok ≡ true → 1 ≡ firstOf (formatChecks g w)
+      unfolding firstOf
+      format-bad-work y = rw (lent-ok, ← o, not-true ok y)
 
-      pub format-work : not ok ≡ false → formatWorkOk g w (w .state .work) ≡ true
-      format-work y = sym o ∙ not-false ok y
-
-      pub format-goes : not ok ≡ false → plan (format g) w ≡ formatStride g (stridesDone g (w .state) (w .state .work)) w
-      unfolding plan planFormat
-      format-goes y = rw (format-lent, ← o, not-false ok y)
+      pub format-passes : not ok ≡ false → 0 ≡ firstOf (formatChecks g w)
+      unfolding firstOf
+      format-passes y = rw (lent-ok, ← o, not-false ok y)
 
   pub recover-not-lent : not lent ≡ true → plan (recover g) w ≡ refuse w 1
-  unfolding plan planRecover lentOk
+  unfolding plan planRecover firstOf lentOk
   recover-not-lent z = rw (← e, not-true lent z)
 
   -- the newest complete checkpoint, looked for in the array
@@ -65,12 +63,12 @@ module _ (g : Geometry) (w : World) (lent : Bool) (e : lent ≡ (geometryOk g &&
 
     module _ (found : Found) (n : found ≡ newest (w .array) m (g .pages)) where
       pub recover-none : found ≡ nothing → plan (recover g) w ≡ refuse w 2
-      unfolding plan planRecover recoverFrom
-      recover-none f = rw (format-lent z, ← maps, ← n, f)
+      unfolding plan planRecover firstOf
+      recover-none f = rw (lent-ok z, ← maps, ← n, f)
 
-      pub recover-at : (k : ℕ) → found ≡ at k → plan (recover g) w ≡ recoverFrom g w (at k)
-      unfolding plan planRecover
-      recover-at k f = rw (format-lent z, ← maps, ← n, f)
+      pub recover-at : (k : ℕ) → found ≡ at k → plan (recover g) w ≡ fromPlan g k w
+      unfolding plan planRecover fromPlan firstOf
+      recover-at k f = rw (lent-ok z, ← maps, ← n, f)
 
       pub standing : (k : ℕ) → found ≡ at k → Standing g (w .array) (w .map) k
       standing k f =

@@ -4,7 +4,7 @@ ghost use mathlib.Core.Path.{_≡_};
 ghost use mathlib.Core.Bool.{true};
 ghost use Prim.Native.Nat.{_<_};
 ghost use Rattle.model.specs.Geometry.{mapPages};
-ghost use Rattle.model.specs.Answers.{number};
+ghost use Rattle.model.specs.Answers.{number, inTable};
 ghost use Rattle.model.specs.World.{World};
 ghost use Rattle.model.specs.Frame.{workOk};
 ghost use Rattle.model.specs.Strides.{mapStride, zoneStride, pageStride, otherStride, firstStride, isCheckpoint, checkpointStride};
@@ -18,6 +18,17 @@ use model::Work;
 pub struct Stride {
     pub answer: Answer,
     pub state: State,
+}
+
+/// What a refusal with number n leaves: the state as it was.
+pub fn refused(s: State, n: u8) -> Stride
+    requires { ⌜ inTable n ≡ true ⌝ }
+    ensures { λ r. ⌜ (number (r .answer) ≡ n) × (r .state ≡ s) ⌝ }
+{
+    Stride {
+        answer: answers::refusal(n),
+        state: s,
+    }
 }
 
 /// Programs map page i of the checkpoint that began on page q of the current front block.

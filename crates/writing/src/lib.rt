@@ -1,82 +1,86 @@
-// The commands that write pages: what they refuse, a test after the other, and else the pages of a change.
+// The commands that write pages: the number that refuses, and else the pages of a change.
 ghost use mathlib.Core.Path.{_≡_};
-ghost use mathlib.Core.Bool.{true, not, _&&_};
-ghost use lib.ListN.{length};
-ghost use lib.Dec.{eqb, leb};
+ghost use mathlib.Core.List.{[], _∷_};
+ghost use lib.ListN.{getD};
 ghost use Rattle.model.specs.Answers.{number};
-ghost use Rattle.model.specs.Zones.{availableOf, cleanIn};
-ghost use Rattle.model.specs.Frame.{frameOk};
-ghost use Rattle.model.specs.Transactions.{addPlan};
+ghost use Rattle.model.specs.Order.{firstOf};
+ghost use Rattle.model.specs.Frame.{noPlace};
+ghost use Rattle.model.specs.Transactions.{badLogicalPage, shortZone, versionsSpent, writeChecks, dropChecks, loneChecks, commitChecks};
 ghost use Rattle.model.specs.Commands.{Outcome, exec, write, dropPage, lone, commit};
 ghost use Rattle.zones.specs.Judging.{Ready};
 ghost use Rattle.change.specs.Changes.{done};
+ghost use Rattle.writing.specs.Looked.{looked, pageChecks, closePlan, Closing};
 use model::Answer;
-use model::Place;
 use model::Refusal;
 use model::Spare;
 use model::State;
 use strides::Stride;
 
-/// Whether a place with n pages must program the one it holds and the zone is short.
-fn held_short(s: State, array: &[u8], n: u8) -> bool
+/// Of 12, or 0: whether a page that must be programmed finds the zone short.
+fn room_refusal(s: State, array: &[u8], programs: bool) -> u8
     requires { ⌜ Ready (s .geometry) (now array) (s .zones) ⌝ }
-    ensures { λ r. ⌜ r ≡ (not (eqb n 0) && leb (cleanIn (now (array .entry)) (s .geometry .pages) (availableOf (s .zones))) (s .geometry .pages)) ⌝ }
+    ensures { λ r. ⌜ r ≡ firstOf (shortZone programs (looked s (now (array .entry))) ∷ []) ⌝ }
 {
-    if n == 0 {
-        return false;
+    if !programs {
+        return 0;
     }
-    change::zone_short(s, array)
+    if change::zone_short(s, array) {
+        return Refusal::ZONE_SHORT;
+    }
+    0
 }
 
-/// Adds a page that writes or drops a logical page to an open change: 5, 8, 10, 12.
-fn add(
-    s: State,
-    array: &mut [u8],
-    map: &[u16],
-    hold: &mut [u8],
-    id: u32,
-    lpn: u16,
-    drop: bool,
-    data: &[u8],
-) -> Stride
-    requires { ⌜ (frameOk (record { array = now array; map = now map; hold = now hold; state = s }) ≡ true) × (length (now «data») ≡ 512) ⌝ }
-    ensures { λ r. ⌜ _≡_ {A = Outcome} (record { answer = number (r .answer); world = record { array = now (array .exit); map = now (map .entry); hold = now (hold .exit); state = r .state } }) (done (addPlan id lpn drop (now («data» .entry))) (record { array = now (array .entry); map = now (map .entry); hold = now (hold .entry); state = s })) ⌝ }
+/// Of 8, 10, 12, or 0: what refuses one page more in a change.
+fn page_refusal(s: State, array: &[u8], id: u32) -> u8
+    requires { ⌜ Ready (s .geometry) (now array) (s .zones) ⌝ }
+    ensures { λ r. ⌜ r ≡ firstOf (pageChecks id (looked s (now (array .entry)))) ⌝ }
 {
-    if lpn >= s.geometry.logical {
-        return Stride {
-            answer: Answer::Refused(Refusal::BadLogicalPage),
-            state: s,
-        };
-    }
     let ps = s.places;
     let i = places::place_of(ps, id);
     if i >= State::PLACES {
-        return Stride {
-            answer: Answer::Refused(Refusal::NotBegun),
-            state: s,
-        };
+        return Refusal::NOT_BEGUN;
     }
     let p = ps[i];
     if p.count >= State::LONGEST_CHANGE {
-        return Stride {
-            answer: Answer::Refused(Refusal::TooLong),
-            state: s,
-        };
+        return Refusal::TOO_LONG;
     }
-    if held_short(s, array, p.count) {
-        return Stride {
-            answer: Answer::Refused(Refusal::ZoneShort),
-            state: s,
-        };
-    }
-    let t = change::write_in(s, array, map, hold, i, lpn, drop, data);
-    Stride {
-        answer: Answer::Done,
-        state: t,
-    }
+    room_refusal(s, array, p.count != 0)
 }
 
-/// Adds a page to an open change: 11, 5, 8, 10, 12.
+/// Of 5, 8, 10, 12, or 0.
+fn add_refusal(s: State, array: &[u8], id: u32, lpn: u16) -> u8
+    requires { ⌜ Ready (s .geometry) (now array) (s .zones) ⌝ }
+    ensures { λ r. ⌜ r ≡ firstOf (badLogicalPage lpn (looked s (now (array .entry))) ∷ pageChecks id (looked s (now (array .entry)))) ⌝ }
+{
+    if lpn >= s.geometry.logical {
+        return Refusal::BAD_LOGICAL_PAGE;
+    }
+    page_refusal(s, array, id)
+}
+
+/// The number that refuses a write, or 0: 1, 17, 11, 5, 8, 10, 12.
+fn write_refusal(
+    s: State,
+    array: &[u8],
+    map: &[u16],
+    hold: &[u8],
+    id: u32,
+    lpn: u16,
+    data: &[u8],
+) -> u8
+    ensures { λ r. ⌜ r ≡ firstOf (writeChecks id lpn (now («data» .entry)) (record { array = now (array .entry); map = now (map .entry); hold = now (hold .entry); state = s })) ⌝ }
+{
+    let n = frame::gate(false, s, array, map, hold);
+    if n != 0 {
+        return n;
+    }
+    if data.len() != Spare::DATA {
+        return Refusal::BAD_LENGTH;
+    }
+    add_refusal(s, array, id, lpn)
+}
+
+/// Adds a page to an open change.
 pub fn write(
     s: State,
     array: &mut [u8],
@@ -88,38 +92,80 @@ pub fn write(
 ) -> Stride
     ensures { λ r. ⌜ _≡_ {A = Outcome} (record { answer = number (r .answer); world = record { array = now (array .exit); map = now (map .entry); hold = now (hold .exit); state = r .state } }) (exec (write id lpn (now («data» .entry))) (record { array = now (array .entry); map = now (map .entry); hold = now (hold .entry); state = s })) ⌝ }
 {
-    let n = frame::gate(false, s, array, map, hold);
+    let n = write_refusal(s, array, map, hold, id, lpn, data);
     if n != 0 {
-        return Stride {
-            answer: frame::stopped(n),
-            state: s,
-        };
+        return strides::refused(s, n);
     }
-    if data.len() != Spare::DATA {
-        return Stride {
-            answer: Answer::Refused(Refusal::BadLength),
-            state: s,
-        };
+    let ps = s.places;
+    let i = places::place_of(ps, id);
+    let t = change::write_in(s, array, map, hold, i, lpn, false, data);
+    Stride {
+        answer: Answer::Done,
+        state: t,
     }
-    add(s, array, map, hold, id, lpn, false, data)
 }
 
-/// Adds a page that drops a logical page to an open change: 5, 8, 10, 12.
-pub fn drop(s: State, array: &mut [u8], map: &[u16], hold: &mut [u8], id: u32, lpn: u16) -> Stride
-    ensures { λ r. ⌜ _≡_ {A = Outcome} (record { answer = number (r .answer); world = record { array = now (array .exit); map = now (map .entry); hold = now (hold .exit); state = r .state } }) (exec (dropPage id lpn) (record { array = now (array .entry); map = now (map .entry); hold = now (hold .entry); state = s })) ⌝ }
+/// The number that refuses a drop, or 0: 1, 17, 5, 8, 10, 12.
+fn drop_refusal(s: State, array: &[u8], map: &[u16], hold: &[u8], id: u32, lpn: u16) -> u8
+    ensures { λ r. ⌜ r ≡ firstOf (dropChecks id lpn (record { array = now (array .entry); map = now (map .entry); hold = now (hold .entry); state = s })) ⌝ }
 {
     let n = frame::gate(false, s, array, map, hold);
     if n != 0 {
-        return Stride {
-            answer: frame::stopped(n),
-            state: s,
-        };
+        return n;
     }
-    let gone = [0xFFu8; Spare::DATA];
-    add(s, array, map, hold, id, lpn, true, &gone)
+    add_refusal(s, array, id, lpn)
 }
 
-/// Writes a page by itself: 11, 5, 13, 12.
+/// Adds a page that drops a logical page to an open change.
+pub fn drop(s: State, array: &mut [u8], map: &[u16], hold: &mut [u8], id: u32, lpn: u16) -> Stride
+    ensures { λ r. ⌜ _≡_ {A = Outcome} (record { answer = number (r .answer); world = record { array = now (array .exit); map = now (map .entry); hold = now (hold .exit); state = r .state } }) (exec (dropPage id lpn) (record { array = now (array .entry); map = now (map .entry); hold = now (hold .entry); state = s })) ⌝ }
+{
+    let n = drop_refusal(s, array, map, hold, id, lpn);
+    if n != 0 {
+        return strides::refused(s, n);
+    }
+    let gone = [0xFFu8; Spare::DATA];
+    let ps = s.places;
+    let i = places::place_of(ps, id);
+    let t = change::write_in(s, array, map, hold, i, lpn, true, &gone);
+    Stride {
+        answer: Answer::Done,
+        state: t,
+    }
+}
+
+/// Of 13, 12, or 0: what refuses a page with a version, where one is programmed.
+fn version_refusal(s: State, array: &[u8], programs: bool) -> u8
+    requires { ⌜ Ready (s .geometry) (now array) (s .zones) ⌝ }
+    ensures { λ r. ⌜ r ≡ firstOf (versionsSpent programs (s .version) 1 ∷ shortZone programs (looked s (now (array .entry))) ∷ []) ⌝ }
+{
+    if !programs {
+        return 0;
+    }
+    if s.version >= State::LAST_NUMBER {
+        return Refusal::VERSIONS_SPENT;
+    }
+    room_refusal(s, array, true)
+}
+
+/// The number that refuses a lone write, or 0: 1, 17, 11, 5, 13, 12.
+fn lone_refusal(s: State, array: &[u8], map: &[u16], hold: &[u8], lpn: u16, data: &[u8]) -> u8
+    ensures { λ r. ⌜ r ≡ firstOf (loneChecks lpn (now («data» .entry)) (record { array = now (array .entry); map = now (map .entry); hold = now (hold .entry); state = s })) ⌝ }
+{
+    let n = frame::gate(false, s, array, map, hold);
+    if n != 0 {
+        return n;
+    }
+    if data.len() != Spare::DATA {
+        return Refusal::BAD_LENGTH;
+    }
+    if lpn >= s.geometry.logical {
+        return Refusal::BAD_LOGICAL_PAGE;
+    }
+    version_refusal(s, array, true)
+}
+
+/// Writes a page by itself.
 pub fn lone(
     s: State,
     array: &mut [u8],
@@ -130,36 +176,9 @@ pub fn lone(
 ) -> Stride
     ensures { λ r. ⌜ _≡_ {A = Outcome} (record { answer = number (r .answer); world = record { array = now (array .exit); map = now (map .exit); hold = now (hold .entry); state = r .state } }) (exec (lone lpn (now («data» .entry))) (record { array = now (array .entry); map = now (map .entry); hold = now (hold .entry); state = s })) ⌝ }
 {
-    let n = frame::gate(false, s, array, map, hold);
+    let n = lone_refusal(s, array, map, hold, lpn, data);
     if n != 0 {
-        return Stride {
-            answer: frame::stopped(n),
-            state: s,
-        };
-    }
-    if data.len() != Spare::DATA {
-        return Stride {
-            answer: Answer::Refused(Refusal::BadLength),
-            state: s,
-        };
-    }
-    if lpn >= s.geometry.logical {
-        return Stride {
-            answer: Answer::Refused(Refusal::BadLogicalPage),
-            state: s,
-        };
-    }
-    if s.version >= State::LAST_NUMBER {
-        return Stride {
-            answer: Answer::Refused(Refusal::VersionsSpent),
-            state: s,
-        };
-    }
-    if change::zone_short(s, array) {
-        return Stride {
-            answer: Answer::Refused(Refusal::ZoneShort),
-            state: s,
-        };
+        return strides::refused(s, n);
     }
     let t = change::write_lone(s, array, map, hold, lpn, data);
     Stride {
@@ -168,47 +187,47 @@ pub fn lone(
     }
 }
 
-/// Closes a change and enters its pages: 8; 13 and 12 only with a held page.
-pub fn commit(s: State, array: &mut [u8], map: &mut [u16], hold: &[u8], id: u32) -> Stride
-    ensures { λ r. ⌜ _≡_ {A = Outcome} (record { answer = number (r .answer); world = record { array = now (array .exit); map = now (map .exit); hold = now (hold .entry); state = r .state } }) (exec (commit id) (record { array = now (array .entry); map = now (map .entry); hold = now (hold .entry); state = s })) ⌝ }
+/// The number that refuses a commit, or 0: 1, 17, 8; 13 and 12 only with a held page.
+fn commit_refusal(s: State, array: &[u8], map: &[u16], hold: &[u8], id: u32) -> u8
+    ensures { λ r. ⌜ r ≡ firstOf (commitChecks id (record { array = now (array .entry); map = now (map .entry); hold = now (hold .entry); state = s })) ⌝ }
 {
     let n = frame::gate(false, s, array, map, hold);
     if n != 0 {
-        return Stride {
-            answer: frame::stopped(n),
-            state: s,
-        };
+        return n;
     }
     let ps = s.places;
     let i = places::place_of(ps, id);
     if i >= State::PLACES {
-        return Stride {
-            answer: Answer::Refused(Refusal::NotBegun),
-            state: s,
-        };
+        return Refusal::NOT_BEGUN;
     }
     let p = ps[i];
+    version_refusal(s, array, p.count != 0)
+}
+
+/// Closes the change of place i: with a held page its mark is programmed and its pages are entered; without one nothing is.
+fn close(s: State, array: &mut [u8], map: &mut [u16], hold: &[u8], i: usize) -> State
+    requires { ⌜ Closing s (now array) (now map) (now hold) i ⌝ }
+    ensures { λ r. ⌜ _≡_ {A = Outcome} (record { answer = 0; world = record { array = now (array .exit); map = now (map .exit); hold = now (hold .entry); state = r } }) (done (closePlan i (getD (s .places) i noPlace)) (record { array = now (array .entry); map = now (map .entry); hold = now (hold .entry); state = s })) ⌝ }
+{
+    let ps = s.places;
+    let p = ps[i];
     if p.count == 0 {
-        let free = Place::free();
-        let t = places::with_place(s, i, free);
-        return Stride {
-            answer: Answer::Done,
-            state: t,
-        };
+        return places::forgotten(s, i);
     }
-    if s.version >= State::LAST_NUMBER {
-        return Stride {
-            answer: Answer::Refused(Refusal::VersionsSpent),
-            state: s,
-        };
+    change::mark(s, array, map, hold, i)
+}
+
+/// Closes a change and enters its pages.
+pub fn commit(s: State, array: &mut [u8], map: &mut [u16], hold: &[u8], id: u32) -> Stride
+    ensures { λ r. ⌜ _≡_ {A = Outcome} (record { answer = number (r .answer); world = record { array = now (array .exit); map = now (map .exit); hold = now (hold .entry); state = r .state } }) (exec (commit id) (record { array = now (array .entry); map = now (map .entry); hold = now (hold .entry); state = s })) ⌝ }
+{
+    let n = commit_refusal(s, array, map, hold, id);
+    if n != 0 {
+        return strides::refused(s, n);
     }
-    if change::zone_short(s, array) {
-        return Stride {
-            answer: Answer::Refused(Refusal::ZoneShort),
-            state: s,
-        };
-    }
-    let t = change::mark(s, array, map, hold, i);
+    let ps = s.places;
+    let i = places::place_of(ps, id);
+    let t = close(s, array, map, hold, i);
     Stride {
         answer: Answer::Done,
         state: t,

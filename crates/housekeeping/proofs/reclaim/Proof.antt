@@ -1,22 +1,23 @@
--- `housekeeping::reclaim` meets its contract: refusals 1 and 17, then the stride of the block that is picked. Assumes nothing.
+-- `housekeeping::reclaim` meets its contract, as every command does: by what refuses it (`refuses`), else by its plan carried out (`carries`). Assumes nothing.
+use borrow.Author.Tests.{not-false}
 use Rattle.model.specs.World.{World}
-use Rattle.model.specs.Strides.{reclaimStride}
 use Rattle.model.specs.Commands.{reclaim}
-use Rattle.checkpoint.specs.Found.{foundOf}
-use Rattle.frame.proofs.Outcomes.{gate-passed, stops, carries}
-use Rattle.housekeeping.proofs.Striding.{frame-fit, frame-pickable, reclaim-stops, reclaim-goes}
+use Rattle.arrays.specs.Order.{Unless}
+use Rattle.frame.proofs.Outcomes.{refusal-known, refuses, passes, carries}
+use Rattle.housekeeping.proofs.Striding.{frame-fit, block-going}
 use borrow.Author.Needs.{needs}
 use Rattle.housekeeping.proofs.reclaim.Statement.{statement}
 use Rattle.housekeeping.proofs.reclaim.Tie as tie
 
-is-reclaim-requires : tie.Need-is-reclaim-requires
-is-reclaim-requires c κs = search needs
+reclaim-refusal-requires : tie.Need-reclaim-refusal-requires
+reclaim-refusal-requires c κs = search needs
 
-gate-requires : tie.Need-gate-requires
-gate-requires c κs = search needs
-
-stopped-requires : tie.Need-stopped-requires
-stopped-requires c κs = search needs
+refused-requires : tie.Need-refused-requires
+refused-requires c κs =
+    let at = c .before .before in
+    let a = at .before .before .before .before .before .before .args in
+    let w : World = record { array = a .array .now; map = a .map .now; hold = a .hold .now; state = a .s } in
+    refusal-known w reclaim _ (at .reclaim-refusal .ensures .refusal) (c .if1 .taken)
 
 same-length : tie.Need-same-length
 same-length c = search needs
@@ -26,22 +27,20 @@ same-length-2 c = search needs
 
 returns : tie.Need-returns
 returns c =
-    let a = c .before .before .before .before .before .before .before .before .before .args in
+    let at = c .before .before .before in
+    let a = at .before .before .before .before .before .before .args in
     let w : World = record { array = a .array .now; map = a .map .now; hold = a .hold .now; state = a .s } in
-    stops w reclaim _ (c .before .before .gate .result) _ (c .before .before .gate .ensures) (c .before .if1 .taken) (c .stopped .ensures)
-    (reclaim-stops w _ (c .before .before .before .before .before .is-reclaim .ensures) _ (c .before .before .gate .ensures) (c .before .if1 .taken))
-
-picked-requires : tie.Need-picked-requires
-picked-requires c κs =
-    let a = c .before .before .before .before .before .before .before .before .before .args in
-    let w : World = record { array = a .array .now; map = a .map .now; hold = a .hold .now; state = a .s } in
-    frame-pickable w (gate-passed w _ _ (c .before .before .gate .ensures) (c .before .if1 .left))
+    refuses w reclaim _ (at .reclaim-refusal .ensures .refusal) (c .before .if1 .taken) _ _ (c .refused .ensures)
 
 reclaim-stride-requires : tie.Need-reclaim-stride-requires
+unfolding Unless
 reclaim-stride-requires c κs =
-    let a = c .before .before .before .before .before .before .before .before .before .before .before .before .args in
+    let at = c .before .before .before .before in
+    let a = at .before .before .before .before .before .before .args in
     let w : World = record { array = a .array .now; map = a .map .now; hold = a .hold .now; state = a .s } in
-    (frame-fit w (gate-passed w _ _ (c .before .before .before .before .before .gate .ensures) (c .before .before .before .before .if1 .left)), c .before .before .picked .ensures)
+    let l = at .reclaim-refusal .ensures in
+    let t = l .taken (c .before .before .if1 .left) in
+    passes w reclaim _ (l .refusal) (c .before .before .if1 .left) (λ f i gain spent short. (frame-fit w (not-false _ f), block-going w _ _ (t .0) (t .1) spent short))
 
 same-length-3 : tie.Need-same-length-3
 same-length-3 c = search needs
@@ -51,23 +50,20 @@ same-length-4 c = search needs
 
 returns-2 : tie.Need-returns-2
 returns-2 c =
-    let a = c .before .before .before .before .before .before .before .before .before .before .before .before .before .before .before .before .before .args in
+    let at = c .before .before .before .before .before .before .before .before .before in
+    let a = at .before .before .before .before .before .before .args in
     let w : World = record { array = a .array .now; map = a .map .now; hold = a .hold .now; state = a .s } in
-    carries w reclaim (reclaimStride w (foundOf (c .before .before .before .before .before .before .before .picked .result))) _ _ _ _ _
-    (reclaim-goes w _ (c .before .before .before .before .before .before .before .before .before .before .before .before .before .is-reclaim .ensures) _ (c .before .before .before .before .before .before .before .before .before .before .gate .ensures) (c .before .before .before .before .before .before .before .before .before .if1 .left) _ (c .before .before .before .before .before .before .before .picked .ensures))
-    (c .before .before .before .before .reclaim-stride .ensures (a .hold .now))
+    carries w reclaim _ (at .reclaim-refusal .ensures .refusal) (c .before .before .before .before .before .before .before .if1 .left) _ (c .before .before .before .before .reclaim-stride .ensures (a .hold .now))
 
 pub reclaim-spec : {M : Type 1} → statement M
 reclaim-spec =
     tie.close
     (tie.spec
-    is-reclaim-requires
-    gate-requires
-    stopped-requires
+    reclaim-refusal-requires
+    refused-requires
     same-length
     same-length-2
     returns
-    picked-requires
     reclaim-stride-requires
     same-length-3
     same-length-4

@@ -1,54 +1,45 @@
--- `reading::read` meets its contract: a test after the other. Assumes nothing.
-use Rattle.model.specs.World.{World}
-use Rattle.reading.proofs.Reading.{frame-failed, frame-passed, in-map, answers, read-bad, read-past, read-never, read-done}
+-- `reading::read` meets its contract, as every command does: by what refuses it (`refuses`), else done (`carries`). Assumes nothing.
+use mathlib.Core.Path.{refl}
+use Rattle.model.specs.World.{World, applyOp}
+use Rattle.model.specs.Transactions.{readAnswer}
+use Rattle.model.specs.Commands.{read, carried}
+use Rattle.frame.proofs.Outcomes.{refusal-known, refuses, carries}
 use borrow.Author.Needs.{needs}
 use Rattle.reading.proofs.read.Statement.{statement}
 use Rattle.reading.proofs.read.Tie as tie
 
-frame-ok-requires : tie.Need-frame-ok-requires
-frame-ok-requires c κs = search needs
+refusal-requires : tie.Need-refusal-requires
+refusal-requires c κs = search needs
+
+refusal-requires-2 : tie.Need-refusal-requires-2
+unfolding readAnswer
+refusal-requires-2 c κs =
+    let at = c .before in
+    let a = at .before .before .before .before .args in
+    let w : World = record { array = a .array .now; map = a .map .now; hold = a .hold .now; state = a .s } in
+    refusal-known w (read (a .lpn)) _ (at .refusal .ensures) (c .if1 .taken)
 
 returns : tie.Need-returns
+unfolding readAnswer
 returns c =
-    let a = c .before .before .before .before .before .args in
+    let at = c .before .before in
+    let a = at .before .before .before .before .args in
     let w : World = record { array = a .array .now; map = a .map .now; hold = a .hold .now; state = a .s } in
-    answers w (a .lpn) _ (read-bad w (a .lpn) (frame-failed w (c .before .frame-ok .result) (c .before .frame-ok .ensures) (c .if1 .taken)))
+    refuses w (read (a .lpn)) _ (at .refusal .ensures) (c .before .if1 .taken) _ _ (c .refusal2 .ensures, refl)
 
 returns-2 : tie.Need-returns-2
+unfolding readAnswer carried applyOp
 returns-2 c =
-    let a = c .before .before .before .before .before .before .before .args in
+    let at = c .before in
+    let a = at .before .before .before .before .args in
     let w : World = record { array = a .array .now; map = a .map .now; hold = a .hold .now; state = a .s } in
-    answers w (a .lpn) _ (read-past w (a .lpn) (frame-passed w (c .before .before .before .frame-ok .result) (c .before .before .before .frame-ok .ensures) (c .before .before .if1 .left)) (c .if2 .taken))
-
-mul-if3 : tie.Need-mul-if3
-mul-if3 c = search needs
-
-shared-slice-read-if3 : tie.Need-shared-slice-read-if3
-shared-slice-read-if3 c =
-    let a = c .before .before .before .before .before .before .before .before .args in
-    let w : World = record { array = a .array .now; map = a .map .now; hold = a .hold .now; state = a .s } in
-    in-map w (a .lpn) (frame-passed w (c .before .before .before .before .frame-ok .result) (c .before .before .before .before .frame-ok .ensures) (c .before .before .before .if1 .left)) (c .before .if2 .left)
-
-returns-3 : tie.Need-returns-3
-returns-3 c =
-    let a = c .before .before .before .before .before .before .before .before .before .args in
-    let w : World = record { array = a .array .now; map = a .map .now; hold = a .hold .now; state = a .s } in
-    answers w (a .lpn) _ (read-never w (a .lpn) (frame-passed w (c .before .before .before .before .before .frame-ok .result) (c .before .before .before .before .before .frame-ok .ensures) (c .before .before .before .before .if1 .left)) (c .before .before .if2 .left) (c .if3 .taken))
-
-returns-4 : tie.Need-returns-4
-returns-4 c =
-    let a = c .before .before .before .before .before .before .before .before .before .args in
-    let w : World = record { array = a .array .now; map = a .map .now; hold = a .hold .now; state = a .s } in
-    answers w (a .lpn) _ (read-done w (a .lpn) (frame-passed w (c .before .before .before .before .before .frame-ok .result) (c .before .before .before .before .before .frame-ok .ensures) (c .before .before .before .before .if1 .left)) (c .before .before .if2 .left) (c .if3 .left))
+    carries w (read (a .lpn)) _ (at .refusal .ensures) (c .if1 .left) _ refl
 
 pub read-spec : {M : Type 1} → statement M
 read-spec =
     tie.close
     (tie.spec
-    frame-ok-requires
+    refusal-requires
+    refusal-requires-2
     returns
-    returns-2
-    mul-if3
-    shared-slice-read-if3
-    returns-3
-    returns-4)
+    returns-2)

@@ -1,5 +1,5 @@
 -- `recover::recover_from` meets its contract: the map entries and the zone page's data are read, and refusal 3 passes them or not. Assumes nothing.
-use mathlib.Core.Path.{_≡_, sym}
+use mathlib.Core.Path.{_≡_, sym, refl}
 use Prim.Native.Nat.{_*_}
 use native.Mathlib.Omega.{arith}
 use lib.ListN.{length}
@@ -59,11 +59,15 @@ entries-ok-requires c κs =
     let n = length-take-le (256 * c .before .before .map-pages .result) (c .before .load-map .result) (omega arith) in
     record { shape = c .before .before .before .before .before .pre .shape; all = omega arith }
 
+refused-requires : tie.Need-refused-requires
+refused-requires c κs = refl
+
 returns : tie.Need-returns
 returns c =
-    let a = c .before .before .before .before .before .before .before .args in
-    entries-refused (a .g) (a .s) (a .array .now) (a .map .now) (a .k) (c .before .before .before .before .before .before .before .pre) (c .before .before .before .before .map-pages .result) (c .before .before .before .before .map-pages .ensures) (c .before .before .before .load-map .result) (c .before .before .before .load-map .ensures) (c .before .entries-ok .result)
-    (c .before .entries-ok .ensures) (not-true _ (c .if1 .taken))
+    let a = c .before .before .before .before .before .before .before .before .args in
+    rw (c .refused .ensures .0, c .refused .ensures .1)
+    (entries-refused (a .g) (a .s) (a .array .now) (a .map .now) (a .k) (c .before .before .before .before .before .before .before .before .pre) (c .before .before .before .before .before .map-pages .result) (c .before .before .before .before .before .map-pages .ensures) (c .before .before .before .before .load-map .result) (c .before .before .before .before .load-map .ensures) (c .before .before .entries-ok .result)
+    (c .before .before .entries-ok .ensures) (not-true _ (c .before .if1 .taken)))
 
 sub-zone-page-ok : tie.Need-sub-zone-page-ok
 sub-zone-page-ok c = search needs
@@ -81,11 +85,20 @@ part-zone-page-ok-end c =
 zone-page-ok-requires : tie.Need-zone-page-ok-requires
 zone-page-ok-requires c κs = search needs
 
+refused-requires-2 : tie.Need-refused-requires-2
+refused-requires-2 c κs = refl
+
 returns-2 : tie.Need-returns-2
 returns-2 c =
-    let a = c .before .before .before .before .before .before .before .before .before .before .args in
-    zones-refused (a .g) (a .s) (a .array .now) (a .map .now) (a .k) (c .before .before .before .before .before .before .before .before .before .before .pre) (c .before .before .before .before .before .before .before .map-pages .result) (c .before .before .before .before .before .before .before .map-pages .ensures) (c .before .before .before .before .before .before .load-map .result) (c .before .before .before .before .before .before .load-map .ensures) (c .before .before .before .before .entries-ok .result)
-    (c .before .before .before .before .entries-ok .ensures) (not-false _ (c .before .before .before .if1 .left)) (c .before .zone-page-ok .result) (c .before .zone-page-ok .ensures) (not-true _ (c .if2 .taken))
+    let at-if1 = c .before .before .before .before in
+    let at-entries-ok = at-if1 .before in
+    let at-load-map = at-entries-ok .before .before in
+    let at-map-pages = at-load-map .before in
+    let start = at-map-pages .before .before .before in
+    let a = start .args in
+    rw (c .refused2 .ensures .0, c .refused2 .ensures .1)
+    (zones-refused (a .g) (a .s) (a .array .now) (a .map .now) (a .k) (start .pre) (at-map-pages .map-pages .result) (at-map-pages .map-pages .ensures) (at-load-map .load-map .result) (at-load-map .load-map .ensures) (at-entries-ok .entries-ok .result)
+    (at-entries-ok .entries-ok .ensures) (not-false _ (at-if1 .if1 .left)) (c .before .before .zone-page-ok .result) (c .before .before .zone-page-ok .ensures) (not-true _ (c .before .if2 .taken)))
 
 sub-apply : tie.Need-sub-apply
 sub-apply c = search needs
@@ -95,33 +108,48 @@ part-apply-start c = search needs
 
 part-apply-end : tie.Need-part-apply-end
 part-apply-end c =
-    let a = c .before .before .before .before .before .before .before .before .before .before .before .args in
-    let e = c .before .before .before .before .before .before .before .before .map-pages .ensures in
-    let f = zone-fits (a .g) (a .array .now) (a .map .now) (a .k) (c .before .before .before .before .before .before .before .before .before .before .before .pre) in
+    let at-map-pages = c .before .before .before .before .before .before .before .before in
+    let start = at-map-pages .before .before .before in
+    let a = start .args in
+    let e = at-map-pages .map-pages .ensures in
+    let f = zone-fits (a .g) (a .array .now) (a .map .now) (a .k) (start .pre) in
     omega arith
 
 array-share-prefix-entries-2 : tie.Need-array-share-prefix-entries-2
 array-share-prefix-entries-2 c =
-    let a = c .before .before .before .before .before .before .before .before .before .before .before .before .args in
-    let e = c .before .before .before .before .before .before .before .before .before .map-pages .ensures in
-    let m = maps-most (a .g) (a .array .now) (a .map .now) (a .k) (c .before .before .before .before .before .before .before .before .before .before .before .before .pre) in
-    let l : length (c .before .before .before .before .before .before .before .before .load-map .result) ≡ 1024 = search needs in
+    let at-load-map = c .before .before .before .before .before .before .before .before in
+    let at-map-pages = at-load-map .before in
+    let start = at-map-pages .before .before .before in
+    let a = start .args in
+    let e = at-map-pages .map-pages .ensures in
+    let m = maps-most (a .g) (a .array .now) (a .map .now) (a .k) (start .pre) in
+    let l : length (at-load-map .load-map .result) ≡ 1024 = search needs in
     omega arith
 
 slice-aggregate-apply : tie.Need-slice-aggregate-apply
 slice-aggregate-apply c =
-    let a = c .before .before .before .before .before .before .before .before .before .before .before .before .before .args in
-    let e = c .before .before .before .before .before .before .before .before .before .before .map-pages .ensures in
-    let m = maps-most (a .g) (a .array .now) (a .map .now) (a .k) (c .before .before .before .before .before .before .before .before .before .before .before .before .before .pre) in
-    let l : length (c .before .before .before .before .before .before .before .before .before .load-map .result) ≡ 1024 = search needs in
-    sym (length-take-le _ (c .before .before .before .before .before .before .before .before .before .load-map .result) (omega arith))
+    let at-load-map = c .before .before .before .before .before .before .before .before .before in
+    let at-map-pages = at-load-map .before in
+    let start = at-map-pages .before .before .before in
+    let a = start .args in
+    let e = at-map-pages .map-pages .ensures in
+    let m = maps-most (a .g) (a .array .now) (a .map .now) (a .k) (start .pre) in
+    let l : length (at-load-map .load-map .result) ≡ 1024 = search needs in
+    sym (length-take-le _ (at-load-map .load-map .result) (omega arith))
 
 apply-requires : tie.Need-apply-requires
 apply-requires c κs =
-    let a = c .before .before .before .before .before .before .before .before .before .before .before .before .before .args in (
-      c .before .before .before .before .before .before .before .before .before .before .before .before .before .pre,
-      loaded (a .g) (a .s) (a .array .now) (a .map .now) (a .k) (c .before .before .before .before .before .before .before .before .before .before .before .before .before .pre) (c .before .before .before .before .before .before .before .before .before .before .map-pages .result) (c .before .before .before .before .before .before .before .before .before .before .map-pages .ensures) (c .before .before .before .before .before .before .before .before .before .load-map .result) (c .before .before .before .before .before .before .before .before .before .load-map .ensures) (c .before .before .before .before .before .before .before .entries-ok .result)
-          (c .before .before .before .before .before .before .before .entries-ok .ensures) (not-false _ (c .before .before .before .before .before .before .if1 .left)) (c .before .before .before .before .zone-page-ok .result) (c .before .before .before .before .zone-page-ok .ensures) (not-false _ (c .before .before .before .if2 .left)),
+    let at-if2 = c .before .before .before in
+    let at-zone-page-ok = at-if2 .before in
+    let at-if1 = at-zone-page-ok .before .before in
+    let at-entries-ok = at-if1 .before in
+    let at-load-map = at-entries-ok .before .before in
+    let at-map-pages = at-load-map .before in
+    let start = at-map-pages .before .before .before in
+    let a = start .args in (
+      start .pre,
+      loaded (a .g) (a .s) (a .array .now) (a .map .now) (a .k) (start .pre) (at-map-pages .map-pages .result) (at-map-pages .map-pages .ensures) (at-load-map .load-map .result) (at-load-map .load-map .ensures) (at-entries-ok .entries-ok .result)
+          (at-entries-ok .entries-ok .ensures) (not-false _ (at-if1 .if1 .left)) (at-zone-page-ok .zone-page-ok .result) (at-zone-page-ok .zone-page-ok .ensures) (not-false _ (at-if2 .if2 .left)),
     )
 
 same-length : tie.Need-same-length
@@ -143,11 +171,13 @@ recover-from-spec =
     array-share-prefix-entries
     slice-aggregate-entries-ok
     entries-ok-requires
+    refused-requires
     returns
     sub-zone-page-ok
     part-zone-page-ok-start
     part-zone-page-ok-end
     zone-page-ok-requires
+    refused-requires-2
     returns-2
     sub-apply
     part-apply-start

@@ -39,8 +39,11 @@ slice-aggregate-scan-pages-3 c = sym (first-of 512 (c .before .before .before .b
 
 scan-pages-requires : tie.Need-scan-pages-requires
 scan-pages-requires c κs =
-    let n = first-of 512 (c .before .before .before .before .before .size .result) (c .before .before .before .before .if1 .taken) ∙ c .before .before .before .before .before .size .ensures .0 in
-    (c .before .before .before .before .before .before .before .before .before .before .before .pre, record { pages = n; room = n; noted = n })
+    let at-if1 = c .before .before .before .before in
+    let at-size = at-if1 .before in
+    let start = at-size .before .before .before .before .before .before in
+    let n = first-of 512 (at-size .size .result) (at-if1 .if1 .taken) ∙ at-size .size .ensures .0 in
+    (start .pre, record { pages = n; room = n; noted = n })
 
 same-length : tie.Need-same-length
 same-length c = search needs
@@ -68,8 +71,10 @@ slice-aggregate-scan-pages-6 c = sym (first-of 8064 (c .before .before .before .
 
 scan-pages-requires-2 : tie.Need-scan-pages-requires-2
 scan-pages-requires-2 c κs =
-    let n = first-of 8064 (c .before .before .before .before .before .size .result) (c .before .before .before .before .before .size .ensures .1) ∙ c .before .before .before .before .before .size .ensures .0 in
-    (c .before .before .before .before .before .before .before .before .before .before .before .pre, record { pages = n; room = n; noted = n })
+    let at-size = c .before .before .before .before .before in
+    let start = at-size .before .before .before .before .before .before in
+    let n = first-of 8064 (at-size .size .result) (at-size .size .ensures .1) ∙ at-size .size .ensures .0 in
+    (start .pre, record { pages = n; room = n; noted = n })
 
 same-length-2 : tie.Need-same-length-2
 same-length-2 c = search needs

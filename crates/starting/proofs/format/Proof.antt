@@ -1,16 +1,25 @@
--- `starting::format` meets its contract: refusal 1, for geometry and lengths and for its own work under way, then the stride. Assumes nothing.
+-- `starting::format` meets its contract, as every command does: by what refuses it (`refuses`), else by its plan carried out (`carries`). Assumes nothing.
+use borrow.Author.Tests.{not-false}
 use Rattle.model.specs.World.{World}
-use Rattle.model.specs.Strides.{stridesDone, formatStride}
+use Rattle.model.specs.Frame.{lentOk}
 use Rattle.model.specs.Commands.{format}
+use Rattle.arrays.specs.Tests.{and-left, and-right}
+use Rattle.arrays.specs.Order.{Unless}
 use Rattle.format.proofs.Frames.{formattable}
-use Rattle.frame.proofs.Outcomes.{refuses, carries}
-use Rattle.starting.proofs.Starts.{format-not-lent, format-lent, format-sized, format-bad-work, format-work, format-goes}
+use Rattle.frame.proofs.Outcomes.{refusal-known, refuses, passes, carries}
 use borrow.Author.Needs.{needs}
 use Rattle.starting.proofs.format.Statement.{statement}
 use Rattle.starting.proofs.format.Tie as tie
 
-lent-ok-requires : tie.Need-lent-ok-requires
-lent-ok-requires c κs = search needs
+format-refusal-requires : tie.Need-format-refusal-requires
+format-refusal-requires c κs = search needs
+
+refused-requires : tie.Need-refused-requires
+refused-requires c κs =
+    let at = c .before in
+    let a = at .before .before .before .before .before .before .args in
+    let w : World = record { array = a .array .now; map = a .map .now; hold = a .hold .now; state = a .s } in
+    refusal-known w (format (a .g)) _ (at .format-refusal .ensures) (c .if1 .taken)
 
 same-length : tie.Need-same-length
 same-length c = search needs
@@ -20,15 +29,23 @@ same-length-2 c = search needs
 
 returns : tie.Need-returns
 returns c =
-    let a = c .before .before .before .before .before .before .before .args in
+    let at = c .before .before in
+    let a = at .before .before .before .before .before .before .args in
     let w : World = record { array = a .array .now; map = a .map .now; hold = a .hold .now; state = a .s } in
-    refuses w (format (a .g)) 1 (format-not-lent (a .g) w _ (c .before .lent-ok .ensures) (c .if1 .taken))
+    refuses w (format (a .g)) _ (at .format-refusal .ensures) (c .before .if1 .taken) _ _ (c .refused .ensures)
 
-work-ok-requires : tie.Need-work-ok-requires
-work-ok-requires c κs =
-    let a = c .before .before .before .before .before .before .before .before .args in
+strides-done-requires : tie.Need-strides-done-requires
+strides-done-requires c κs = search needs
+
+format-stride-requires : tie.Need-format-stride-requires
+unfolding Unless
+format-stride-requires c κs =
+    let at = c .before .before .before .before in
+    let a = at .before .before .before .before .before .before .args in
     let w : World = record { array = a .array .now; map = a .map .now; hold = a .hold .now; state = a .s } in
-    format-sized (a .g) w _ (c .before .before .lent-ok .ensures) (c .before .if1 .left)
+    passes w (format (a .g)) _ (at .format-refusal .ensures) (c .before .before .before .if1 .left) (λ bad.
+    let ok = not-false _ bad in
+    rw (c .before .before .strides-done .ensures) (formattable (a .g) w (and-left (lentOk (a .g) w) _ ok) (a .s .work) (and-right (lentOk (a .g) w) _ ok)))
 
 same-length-3 : tie.Need-same-length-3
 same-length-3 c = search needs
@@ -38,50 +55,23 @@ same-length-4 c = search needs
 
 returns-2 : tie.Need-returns-2
 returns-2 c =
-    let a = c .before .before .before .before .before .before .before .before .before .before .args in
+    let at = c .before .before .before .before .before .before .before .before .before in
+    let a = at .before .before .before .before .before .before .args in
     let w : World = record { array = a .array .now; map = a .map .now; hold = a .hold .now; state = a .s } in
-    refuses w (format (a .g)) 1
-    (format-bad-work (a .g) w _ (c .before .before .before .before .lent-ok .ensures) (c .before .before .before .if1 .left) _ (c .before .work-ok .ensures (a .map .now) (a .hold .now)) (c .if2 .taken))
-
-strides-done-requires : tie.Need-strides-done-requires
-strides-done-requires c κs = search needs
-
-format-stride-requires : tie.Need-format-stride-requires
-format-stride-requires c κs =
-    let a = c .before .before .before .before .before .before .before .before .before .before .before .before .before .args in
-    let w : World = record { array = a .array .now; map = a .map .now; hold = a .hold .now; state = a .s } in
-    rw (c .before .before .strides-done .ensures)
-    (formattable (a .g) w (format-lent (a .g) w _ (c .before .before .before .before .before .before .before .lent-ok .ensures) (c .before .before .before .before .before .before .if1 .left)) (a .s .work)
-    (format-work (a .g) w _ (c .before .before .before .before .before .before .before .lent-ok .ensures) (c .before .before .before .before .before .before .if1 .left) _ (c .before .before .before .before .work-ok .ensures (a .map .now) (a .hold .now)) (c .before .before .before .if2 .left)))
-
-same-length-5 : tie.Need-same-length-5
-same-length-5 c = search needs
-
-same-length-6 : tie.Need-same-length-6
-same-length-6 c = search needs
-
-returns-3 : tie.Need-returns-3
-returns-3 c =
-    let a = c .before .before .before .before .before .before .before .before .before .before .before .before .before .before .before .before .before .before .args in
-    let w : World = record { array = a .array .now; map = a .map .now; hold = a .hold .now; state = a .s } in
-    carries w (format (a .g)) (formatStride (a .g) (stridesDone (a .g) (a .s) (a .s .work)) w) _ _ _ _ _
-    (format-goes (a .g) w _ (c .before .before .before .before .before .before .before .before .before .before .before .before .lent-ok .ensures) (c .before .before .before .before .before .before .before .before .before .before .before .if1 .left) _ (c .before .before .before .before .before .before .before .before .before .work-ok .ensures (a .map .now) (a .hold .now)) (c .before .before .before .before .before .before .before .before .if2 .left))
+    carries w (format (a .g)) _ (at .format-refusal .ensures) (c .before .before .before .before .before .before .before .before .if1 .left) _
     (rw (c .before .before .before .before .before .before .before .strides-done .ensures) at (c .before .before .before .before .format-stride .ensures (a .s) (a .hold .now)))
 
 pub format-spec : {M : Type 1} → statement M
 format-spec =
     tie.close
     (tie.spec
-    lent-ok-requires
+    format-refusal-requires
+    refused-requires
     same-length
     same-length-2
     returns
-    work-ok-requires
-    same-length-3
-    same-length-4
-    returns-2
     strides-done-requires
     format-stride-requires
-    same-length-5
-    same-length-6
-    returns-3)
+    same-length-3
+    same-length-4
+    returns-2)
