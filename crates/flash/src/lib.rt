@@ -73,23 +73,6 @@ pub fn erase_block(array: &mut [u8], pages: usize, b: usize)
     page::erase(&mut array[start..end]);
 }
 
-/// The pages of block b up to and with its last that is not erased: the clean ones come after.
-pub fn used_in(array: &[u8], pages: usize, b: usize) -> usize
-    requires { ⌜ b * pages * 528 + pages * 528 ≤ length (now array) ⌝ }
-    ensures { λ r. ⌜ (r ≡ usedIn (now (array .entry)) pages b) × (r ≤ pages) ⌝ }
-{
-    let first = b * pages;
-    let mut n = pages;
-    while 0 < n {
-        let m = n - 1;
-        if !is_blank(array, first + m) {
-            return n;
-        }
-        n = m;
-    }
-    0
-}
-
 /// What is still due of some clean pages beside those of block b. These are counted from its end, no further than is due.
 fn still_due(array: &[u8], pages: usize, b: usize, due: usize) -> usize
     requires { ⌜ b * pages * 528 + pages * 528 ≤ length (now array) ⌝ }
@@ -109,6 +92,14 @@ fn still_due(array: &[u8], pages: usize, b: usize, due: usize) -> usize
         left -= 1;
     }
     0
+}
+
+/// The pages of block b up to and with its last that is not erased: the clean ones come after. They are what is left due of all its pages.
+pub fn used_in(array: &[u8], pages: usize, b: usize) -> usize
+    requires { ⌜ b * pages * 528 + pages * 528 ≤ length (now array) ⌝ }
+    ensures { λ r. ⌜ (r ≡ usedIn (now (array .entry)) pages b) × (r ≤ pages) ⌝ }
+{
+    still_due(array, pages, b, pages)
 }
 
 /// Whether some blocks have fewer clean pages than `least`. They are counted no further than that.

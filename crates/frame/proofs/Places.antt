@@ -1,5 +1,5 @@
 -- A place in range, by its count and its identifier: which tests are left; and that no later one shares its identifier. Assumes nothing.
-use mathlib.Core.Path.{_≡_, refl, ap}
+use mathlib.Core.Path.{_≡_, refl, sym, ap}
 use mathlib.Core.Bool.{Bool, true, false, not, _&&_, _||_}
 use mathlib.Core.List.{List, [], _∷_}
 use Prim.Native.Nat.{ℕ, zero, suc, _+_, _-_, _≤_, _<_}
@@ -7,13 +7,13 @@ use native.Mathlib.Omega.{arith}
 use lib.Dec.{eqb, ltb}
 use lib.ListN.{length, getD, take, drop}
 use borrow.Author.Tests.{le-leb, lt-leb, eq-eqb, ne-eqb}
-use Rattle.model.specs.Lists.{all}
+use Rattle.model.specs.Lists.{all, any}
 use Rattle.model.specs.Geometry.{dataPage}
 use Rattle.model.specs.Zones.{hasId}
 use Rattle.model.specs.Frame.{noPlace, badId, mostPages, placeOk, alone}
 use Rattle.model.specs.declared.Geometry.{Geometry}
 use Rattle.model.specs.declared.Place.{Place}
-use Rattle.places.specs.Ids.{idsOf}
+use Rattle.places.specs.Ids.{idsOf, isId}
 use Rattle.places.proofs.Ids.{ids-at}
 use Rattle.frame.specs.Ids.{idAlone}
 
@@ -66,3 +66,17 @@ all-ids id (p ∷ ps) = ap (λ (t : Bool). not (eqb (p .id) id) && t) (all-ids i
 pub alone-ids : (ps : List Place) (i : ℕ) → i < length ps → idAlone (getD (idsOf ps) i 0) (drop (i + 1) (idsOf ps)) ≡ alone (getD ps i noPlace) (drop (i + 1) ps)
 unfolding idAlone alone
 alone-ids ps i h = rw (ids-at ps i noPlace h, drop-ids (i + 1) ps, all-ids (getD ps i noPlace .id) (drop (i + 1) ps))
+
+-- an identifier other than 0 is alone where it is not among the later ones
+all-not : (id : ℕ) (ids : List ℕ) → all (λ (x : ℕ). not (eqb x id)) ids ≡ not (any (isId id) ids)
+unfolding all any
+all-not id [] = refl
+all-not id (x ∷ ids) = go (eqb x id) (all-not id ids)
+  where
+    go : (t : Bool) → all (λ (y : ℕ). not (eqb y id)) ids ≡ not (any (isId id) ids) → (not t && all (λ (y : ℕ). not (eqb y id)) ids) ≡ not (t || any (isId id) ids)
+    go true e = refl
+    go false e = e
+
+pub alone-later : (id : ℕ) (ids : List ℕ) → (id ≡ 0 → ⊥) → not (any (isId id) ids) ≡ idAlone id ids
+unfolding idAlone
+alone-later id ids h = sym (rw (ne-eqb id 0 h) (all-not id ids))

@@ -8,7 +8,7 @@ ghost use Rattle.model.specs.Answers.{number};
 ghost use Rattle.model.specs.Lists.{all};
 ghost use Rattle.model.specs.Geometry.{geometryOk, dataPage};
 ghost use Rattle.model.specs.Frame.{mostPages, placeOk, placesOk, formatStrideOk, checkpointStrideOk, workOk, frameOk, isIdle, gate};
-ghost use Rattle.frame.specs.Lent.{Sized};
+ghost use Rattle.frame.specs.Lent.{Sized, within};
 ghost use Rattle.frame.specs.Ids.{idAlone};
 use model::Geometry;
 use model::Place;
@@ -22,19 +22,28 @@ const FRONT: u8 = Geometry::FRONT_BLOCKS as u8;
 /// Pages that a place has room for.
 const PAGES: u8 = Place::PAGES as u8;
 
+/// Whether the first n numbers are at least lo and below hi.
+fn numbers_ok(list: [u16; Place::PAGES], n: usize, lo: u16, hi: u16) -> bool
+    requires { ⌜ n ≤ 64 ⌝ }
+    ensures { λ r. ⌜ r ≡ all (within lo hi) (take n list) ⌝ }
+{
+    for i in 0..n {
+        if list[i] < lo {
+            return false;
+        }
+        if list[i] >= hi {
+            return false;
+        }
+    }
+    true
+}
+
 /// Whether the first n logical page numbers are in range.
 fn lpns_ok(lpns: [u16; Place::PAGES], n: usize, logical: u16) -> bool
     requires { ⌜ n ≤ 64 ⌝ }
     ensures { λ r. ⌜ r ≡ all (λ (l : ℕ). ltb l logical) (take n lpns) ⌝ }
 {
-    let mut i: usize = 0;
-    while i < n {
-        if lpns[i] >= logical {
-            return false;
-        }
-        i += 1;
-    }
-    true
+    numbers_ok(lpns, n, 0, logical)
 }
 
 /// Whether the first n page numbers are of data blocks.
@@ -44,17 +53,7 @@ fn ppns_ok(g: Geometry, ppns: [u16; Place::PAGES], n: usize) -> bool
 {
     let lo = Geometry::FRONT_BLOCKS * g.pages;
     let hi = g.blocks * g.pages;
-    let mut i: usize = 0;
-    while i < n {
-        if ppns[i] < lo {
-            return false;
-        }
-        if ppns[i] >= hi {
-            return false;
-        }
-        i += 1;
-    }
-    true
+    numbers_ok(ppns, n, lo, hi)
 }
 
 /// The pages that a place may have: on two planes, those that a change may be written up to.
@@ -102,14 +101,8 @@ fn is_alone(ids: [u32; State::PLACES], i: usize) -> bool
     if id == 0 {
         return true;
     }
-    let mut j = i + 1;
-    while j < State::PLACES {
-        if ids[j] == id {
-            return false;
-        }
-        j += 1;
-    }
-    true
+    let j = i + 1;
+    !places::among(&ids[j..], id)
 }
 
 /// Whether the places are in range, and no two share an identifier. The identifiers are taken out once, so that no look copies the places.

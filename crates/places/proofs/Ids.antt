@@ -12,7 +12,7 @@ use borrow.Author.Tests.{lt-ltb, le-ltb, ltb-true, ltb-false}
 use Rattle.model.specs.Lists.{any, find}
 use Rattle.model.specs.Zones.{hasId, active}
 use Rattle.model.specs.declared.Place.{Place}
-use Rattle.places.specs.Ids.{idsOf, activeIn}
+use Rattle.places.specs.Ids.{idsOf, isId, activeIn}
 
 pub length-ids : (ps : List Place) → length (idsOf ps) ≡ length ps
 unfolding idsOf
@@ -25,10 +25,15 @@ ids-at [] i d h = absurd (omega arith)
 ids-at (p ∷ ps) zero d h = refl
 ids-at (p ∷ ps) (suc i) d h = ids-at ps i d (omega arith)
 
-any-ids : (id : ℕ) (ps : List Place) → any (λ (x : ℕ). eqb x id) (idsOf ps) ≡ any (hasId id) ps
+any-ids : (id : ℕ) (ps : List Place) → any (isId id) (idsOf ps) ≡ any (hasId id) ps
 unfolding any idsOf
 any-ids id [] = refl
 any-ids id (p ∷ ps) = ap (λ (t : Bool). eqb (p .id) id || t) (any-ids id ps)
+
+pub find-ids : (id : ℕ) (ps : List Place) → find (isId id) (idsOf ps) ≡ find (hasId id) ps
+unfolding find idsOf
+find-ids id [] = refl
+find-ids id (p ∷ ps) = ap (λ (n : ℕ). cond (eqb (p .id) id) 0 (suc n)) (find-ids id ps)
 
 pub active-ids : (id : ℕ) (ps : List Place) → activeIn id (idsOf ps) ≡ active id ps
 unfolding activeIn active

@@ -1,13 +1,13 @@
--- Walking a list from its start: what a turn of a loop shows of the test of the rest. Assumes nothing.
+-- Looking for the first element that passes, from the start of a list: what a turn of a loop shows of the rest. Assumes nothing.
 use mathlib.Core.Path.{_≡_, ap, _∙_}
-use mathlib.Core.Bool.{Bool, true, false, cond, _||_}
+use mathlib.Core.Bool.{Bool, true, false, cond}
 use mathlib.Core.List.{List}
 use Prim.Native.Nat.{ℕ, suc, _+_, _≤_, _<_}
 use native.Mathlib.Numerals.{add-one}
 use native.Mathlib.Omega.{arith}
 use lib.ListN.{length, drop, getD, drop-of-length-le}
 use lib.Seq.{drop-cons}
-use Rattle.model.specs.Lists.{any, find}
+use Rattle.model.specs.Lists.{find}
 
 module _ {A : Type 0} (p : A → Bool) (l : List A) (i : ℕ) where
   -- the i-th passes, or not
@@ -25,17 +25,3 @@ module _ {A : Type 0} (p : A → Bool) (l : List A) (i : ℕ) where
   pub find-end : {n : ℕ} → length l ≤ i → n ≡ i + find p (drop i l) → n ≡ i
   unfolding find
   find-end h e = let s = ap (find p) (drop-of-length-le l h) in omega arith
-
-  any-step : (d : A) → i < length l → any p (drop i l) ≡ (p (getD l i d) || any p (drop (i + 1) l))
-  unfolding any
-  any-step d h = rw (add-one, drop-cons l i d)
-
-  pub any-hit : {t : Bool} (d : A) → i < length l → t ≡ any p (drop i l) → p (getD l i d) ≡ true → t ≡ true
-  any-hit d h e t = e ∙ any-step d h ∙ ap (λ (b : Bool). b || any p (drop (i + 1) l)) t
-
-  pub any-more : {t : Bool} (d : A) → i < length l → t ≡ any p (drop i l) → p (getD l i d) ≡ false → t ≡ any p (drop (i + 1) l)
-  any-more d h e t = e ∙ any-step d h ∙ ap (λ (b : Bool). b || any p (drop (i + 1) l)) t
-
-  pub any-end : {t : Bool} → length l ≤ i → t ≡ any p (drop i l) → t ≡ false
-  unfolding any
-  any-end h e = e ∙ ap (any p) (drop-of-length-le l h)

@@ -11,6 +11,10 @@ unfoldable pub idsOf : List Place → List ℕ
 idsOf [] = []
 idsOf (p ∷ ps) = p .id ∷ idsOf ps
 
+-- the identifier is this one
+abbrev pub isId : ℕ → ℕ → Bool
+isId id x = eqb x id
+
 -- an identifier other than 0 that is among these
 unfoldable pub activeIn : ℕ → List ℕ → Bool
-activeIn id ids = not (eqb id 0) && any (λ (x : ℕ). eqb x id) ids
+activeIn id ids = not (eqb id 0) && any (isId id) ids

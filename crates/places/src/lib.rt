@@ -1,12 +1,12 @@
 // The places of a state and the state with one part replaced, by value.
 ghost use mathlib.Core.Path.{_≡_};
 ghost use Prim.Native.Nat.{_+_, _<_};
-ghost use Rattle.model.specs.Lists.{find};
+ghost use Rattle.model.specs.Lists.{any, find};
 ghost use Rattle.model.specs.Zones.{hasId, active, planeOf};
 ghost use Rattle.model.specs.Frame.{freePlace, badId};
 ghost use Rattle.model.specs.Transactions.{placeOf, withPlace, withVersion, withLast, begun, written};
 ghost use Rattle.model.specs.Strides.{withWork, withZones, withNumber};
-ghost use Rattle.places.specs.Ids.{idsOf, activeIn};
+ghost use Rattle.places.specs.Ids.{idsOf, isId, activeIn};
 use model::Place;
 use model::Plane;
 use model::State;
@@ -23,19 +23,45 @@ pub fn bad_id(id: u32) -> bool
     id == State::NO_NUMBER
 }
 
+/// The identifiers of the places, 0 for a free one.
+pub fn ids_of(places: [Place; State::PLACES]) -> [u32; State::PLACES]
+    ensures { λ r. ⌜ r ≡ idsOf places ⌝ }
+{
+    let mut ids = [0u32; State::PLACES];
+    let mut i: usize = 0;
+    while i < State::PLACES {
+        let p = places[i];
+        ids[i] = p.id;
+        i += 1;
+    }
+    ids
+}
+
+/// The index of the first identifier that is this one, or how many there are.
+fn index_of(ids: &[u32], id: u32) -> usize
+    ensures { λ r. ⌜ r ≡ find (isId id) (now (ids .entry)) ⌝ }
+{
+    for i in 0..ids.len() {
+        if ids[i] == id {
+            return i;
+        }
+    }
+    ids.len()
+}
+
+/// Whether an identifier is among these.
+pub fn among(ids: &[u32], id: u32) -> bool
+    ensures { λ r. ⌜ r ≡ any (isId id) (now (ids .entry)) ⌝ }
+{
+    index_of(ids, id) < ids.len()
+}
+
 /// The first place with an identifier, or 8.
 pub fn find_id(places: [Place; State::PLACES], id: u32) -> usize
     ensures { λ r. ⌜ r ≡ find (hasId id) places ⌝ }
 {
-    let mut i: usize = 0;
-    while i < State::PLACES {
-        let p = places[i];
-        if p.id == id {
-            return i;
-        }
-        i += 1;
-    }
-    State::PLACES
+    let ids = ids_of(places);
+    index_of(&ids, id)
 }
 
 /// The place of an active identifier, or 8.
@@ -58,20 +84,6 @@ pub fn is_active(places: [Place; State::PLACES], id: u32) -> bool
     find_id(places, id) < State::PLACES
 }
 
-/// The identifiers of the places, 0 for a free one.
-pub fn ids_of(places: [Place; State::PLACES]) -> [u32; State::PLACES]
-    ensures { λ r. ⌜ r ≡ idsOf places ⌝ }
-{
-    let mut ids = [0u32; State::PLACES];
-    let mut i: usize = 0;
-    while i < State::PLACES {
-        let p = places[i];
-        ids[i] = p.id;
-        i += 1;
-    }
-    ids
-}
-
 /// Whether an identifier other than 0 is among these.
 pub fn is_active_in(ids: [u32; State::PLACES], id: u32) -> bool
     ensures { λ r. ⌜ r ≡ activeIn id ids ⌝ }
@@ -79,27 +91,16 @@ pub fn is_active_in(ids: [u32; State::PLACES], id: u32) -> bool
     if id == 0 {
         return false;
     }
-    let mut i: usize = 0;
-    while i < State::PLACES {
-        if ids[i] == id {
-            return true;
-        }
-        i += 1;
-    }
-    false
+    among(&ids, id)
 }
 
 /// The place of a transaction that was just begun.
 pub fn begun(id: u32) -> Place
     ensures { λ r. ⌜ r ≡ begun id ⌝ }
 {
-    Place {
-        id,
-        count: 0,
-        lpns: [0u16; Place::PAGES],
-        ppns: [0u16; Place::PAGES],
-        drops: [false; Place::PAGES],
-    }
+    let mut p = Place::free();
+    p.id = id;
+    p
 }
 
 /// The place with one more page, held, the one held before being programmed on page k.

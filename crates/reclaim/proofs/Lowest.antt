@@ -1,6 +1,6 @@
 -- The lowest mapped page of some: what a turn of the loop that looks for it shows, and where it lies. Assumes nothing.
 use mathlib.Core.Path.{_≡_, refl, sym, ap, _∙_}
-use mathlib.Core.Bool.{Bool, true, false, cond}
+use mathlib.Core.Bool.{Bool, true, false, cond, _&&_}
 use mathlib.Core.List.{List, [], _∷_}
 use mathlib.Core.Logic.{_⊎_, inl, inr}
 use Prim.Native.Nat.{ℕ, zero, suc, _+_, _-_, _*_, _≤_, _<_}
@@ -8,7 +8,7 @@ use native.Mathlib.Omega.{arith}
 use lib.ListN.{length, getD}
 use lib.Dec.{eqb, leb, ltb}
 use borrow.Author.Count.{below-more}
-use borrow.Author.Tests.{eq-eqb, eqb-true, leb-true, ltb-true}
+use borrow.Author.Tests.{eq-eqb, eqb-true, leb-true, ltb-true, ltb-false, le-leb}
 use Rattle.model.specs.Lists.{any, find, elem, count}
 use Rattle.model.specs.Strides.{mappedIn, lowestFrom}
 use Rattle.arrays.specs.Tests.{Is, eqb-cases, clash, not-so, and-left, and-right, or-right, or-left, find-passes}
@@ -63,26 +63,29 @@ module _ (map : List ℕ) (lo hi : ℕ) where
   least-first h = record { low = h; high = omega arith; none = λ j l. absurd (omega arith); some = inl refl }
 
   module _ (i least : ℕ) (s : Least map lo hi i least) where
-    pub least-below : getD map i 0 < lo → Least map lo hi (i + 1) least
-    least-below l =
-        record { low = s .low; high = s .high; none = below-more (λ (j : ℕ). lo ≤ getD map j 0 → least ≤ getD map j 0) i (s .none) (λ h. absurd (omega arith)); some = s .some }
-
-    pub least-above : least ≤ getD map i 0 → Least map lo hi (i + 1) least
-    least-above l =
-        record { low = s .low; high = s .high; none = below-more (λ (j : ℕ). lo ≤ getD map j 0 → least ≤ getD map j 0) i (s .none) (λ h. l); some = s .some }
-
-    pub least-here : i < length map → lo ≤ getD map i 0 → getD map i 0 < least → Least map lo hi (i + 1) (getD map i 0)
-    least-here h l k =
-        let a = s .high in
+    -- the next entry is no page from lo on and below the least so far, or it is
+    pub least-out : (leb lo (getD map i 0) && ltb (getD map i 0) least) ≡ false → Least map lo hi (i + 1) least
+    least-out f =
         record {
-          low = l;
+          low = s .low;
+          high = s .high;
+          none = below-more (λ (j : ℕ). lo ≤ getD map j 0 → least ≤ getD map j 0) i (s .none) (λ h. ltb-false (getD map i 0) least (rw (le-leb lo (getD map i 0) h) at f));
+          some = s .some;
+        }
+
+    pub least-here : i < length map → (leb lo (getD map i 0) && ltb (getD map i 0) least) ≡ true → Least map lo hi (i + 1) (getD map i 0)
+    least-here h f =
+        let a = s .high in
+        let k = ltb-true (getD map i 0) least (and-right (leb lo (getD map i 0)) (ltb (getD map i 0) least) f) in
+        record {
+          low = leb-true lo (getD map i 0) (and-left (leb lo (getD map i 0)) (ltb (getD map i 0) least) f);
           high = omega arith;
-          none = below-more (λ (j : ℕ). lo ≤ getD map j 0 → getD map i 0 ≤ getD map j 0) i (λ j m g. below j (s .none j m g)) (λ g. omega arith);
+          none = below-more (λ (j : ℕ). lo ≤ getD map j 0 → getD map i 0 ≤ getD map j 0) i (λ j m g. below j k (s .none j m g)) (λ g. omega arith);
           some = inr (elem-at map i h);
         }
       where
-        below : (j : ℕ) → least ≤ getD map j 0 → getD map i 0 ≤ getD map j 0
-        below j m = omega arith
+        below : (j : ℕ) → getD map i 0 < least → least ≤ getD map j 0 → getD map i 0 ≤ getD map j 0
+        below j k m = omega arith
 
     pub least-end : length map ≤ i → least ≡ lowestFrom map lo (hi - lo)
     least-end h =

@@ -1,9 +1,9 @@
 // Reclaim: the block that it takes, and its strides.
 ghost use mathlib.Core.Path.{_≡_};
-ghost use mathlib.Core.Bool.{true};
+ghost use mathlib.Core.Bool.{true, _&&_};
 ghost use Prim.Native.Nat.{_-_, _/_, _≤_, _<_};
 ghost use lib.ListN.{length};
-ghost use lib.Dec.{eqb};
+ghost use lib.Dec.{eqb, leb, ltb};
 ghost use Rattle.model.specs.Lists.{find};
 ghost use Rattle.model.specs.Geometry.{dataBlock};
 ghost use Rattle.model.specs.Zones.{checkpointed};
@@ -51,6 +51,16 @@ pub fn is_reclaim(work: Work) -> bool
     }
 }
 
+/// Whether an entry is a page from page lo on and below hi.
+fn in_range(e: u16, lo: usize, hi: usize) -> bool
+    ensures { λ r. ⌜ r ≡ (leb lo e && ltb e hi) ⌝ }
+{
+    if (e as usize) < lo {
+        return false;
+    }
+    (e as usize) < hi
+}
+
 /// The mapped pages of block b.
 fn mapped_in(map: &[u16], pages: usize, b: usize) -> usize
     requires { ⌜ (length (now map) ≤ 1024) × ((pages ≤ 64) × (b < 128)) ⌝ }
@@ -59,19 +69,10 @@ fn mapped_in(map: &[u16], pages: usize, b: usize) -> usize
     let lo = b * pages;
     let hi = lo + pages;
     let mut n: usize = 0;
-    let mut i: usize = 0;
-    while i < map.len() {
-        let e = map[i] as usize;
-        if e < lo {
-            i += 1;
-            continue;
+    for i in 0..map.len() {
+        if in_range(map[i], lo, hi) {
+            n += 1;
         }
-        if e >= hi {
-            i += 1;
-            continue;
-        }
-        n += 1;
-        i += 1;
     }
     n
 }
@@ -142,19 +143,11 @@ fn lowest_from(map: &[u16], lo: usize, hi: usize) -> usize
     ensures { λ r. ⌜ r ≡ lowestFrom (now (map .entry)) lo (hi - lo) ⌝ }
 {
     let mut least = hi;
-    let mut i: usize = 0;
-    while i < map.len() {
-        let e = map[i] as usize;
-        if e < lo {
-            i += 1;
-            continue;
+    for i in 0..map.len() {
+        let e = map[i];
+        if in_range(e, lo, least) {
+            least = e as usize;
         }
-        if e >= least {
-            i += 1;
-            continue;
-        }
-        least = e;
-        i += 1;
     }
     least
 }

@@ -16,7 +16,7 @@ use Rattle.arrays.specs.Tests.{all-nil, all-cons, all-append, all-append-left, 
 use Rattle.arrays.specs.Ranges.{block-is}
 use Rattle.blocks.specs.declared.Blocks.{Blocks}
 use Rattle.blocks.specs.Blocks.{blocksOf, listOf}
-use Rattle.blocks.proofs.Kept.{copied, kept-list, kept-with}
+use Rattle.blocks.proofs.Kept.{kept-list, kept-with}
 
 -- ---- the block to take, i being the index of the first at or after the pointer
 module _ (p : ℕ) (f : List ℕ) where
@@ -71,7 +71,7 @@ unfolding blocksOf
 fill-more i l h e =
     let xs = upFrom 2 i in
     let s : i + 2 ≡ 2 + i = omega arith in
-    let k = kept-with xs l i (i + 2) (sym (length-up 2 i)) h (e ∙ sym (copied 126 xs (take (length xs) xs ++ drop (length xs) (replicate 126 0)) refl)) in
+    let k = kept-with xs l i (i + 2) (sym (length-up 2 i)) h e in
     ap (λ (b : Blocks). b .list) k ∙ ap (λ (x : ℕ). padTo 126 (xs ++ (x ∷ []))) s ∙ ap (padTo 126) (sym (up-more 2 i))
 
 pub filled : (n : ℕ) (l : List ℕ) → l ≡ padTo 126 (upFrom 2 n) → _≡_ {A = Blocks} (record { list = l; n = n }) (blocksOf (upFrom 2 n))

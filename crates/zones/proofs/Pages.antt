@@ -146,3 +146,10 @@ full-last xs p b h = go (blankAt xs (b * p + (p - 1))) refl
     go false e =
         let m : p ≡ suc (p - 1) = omega arith in
         sym (eq-eqb (usedFrom xs (b * p) p) p (ap (usedFrom xs (b * p)) m ∙ used-end xs (b * p) (p - 1) e ∙ sym m))
+
+pub blank-last : (xs : List ℕ) (p b : ℕ) → 1 ≤ p → blankAt xs (b * p + (p - 1)) ≡ not (isFull xs p b)
+blank-last xs p b h = twice (blankAt xs (b * p + (p - 1))) ∙ ap not (full-last xs p b h)
+  where
+    twice : (t : Bool) → t ≡ not (not t)
+    twice true = refl
+    twice false = refl

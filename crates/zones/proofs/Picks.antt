@@ -54,11 +54,13 @@ module _ (q : ℕ → Bool) (start bs : List ℕ) (i : ℕ) (out : Blocks) (e : 
       let n = length-take-le i bs h in
       omega arith
 
-  pub picks-pass : i < length bs → q (getD bs i 0) ≡ false → out ≡ blocksOf (start ++ those q (take (i + 1) bs))
-  picks-pass h n = e ∙ ap (λ (l : List ℕ). blocksOf (start ++ l)) (sym (more-no q bs i h n))
+  pub picks-kept : out ≡ blocksOf (listOf out)
+  picks-kept = e ∙ ap blocksOf (sym (kept-list out (start ++ those q (take i bs)) e))
 
-  pub picks-more : (r : Blocks) → r ≡ blocksOf (listOf out ++ (getD bs i 0 ∷ [])) → i < length bs → q (getD bs i 0) ≡ true → r ≡ blocksOf (start ++ those q (take (i + 1) bs))
-  picks-more r f h y = f ∙ rw (kept-list out (start ++ those q (take i bs)) e, more-yes q bs i h y, append-assoc)
+  pub picks-next : (t : Bool) → t ≡ q (getD bs i 0) → (r : Blocks) → r ≡ blocksOf (listOf out ++ keep t (getD bs i 0 ∷ [])) → i < length bs
+      → r ≡ blocksOf (start ++ those q (take (i + 1) bs))
+  picks-next true y r f h = f ∙ rw (kept-list out (start ++ those q (take i bs)) e, more-yes q bs i h (sym y), append-assoc)
+  picks-next false n r f h = f ∙ rw (append-nil, kept-list out (start ++ those q (take i bs)) e, more-no q bs i h (sym n))
 
   pub picks-end : length bs ≤ i → out ≡ blocksOf (start ++ those q bs)
   picks-end h = e ∙ rw (take-all i bs h)

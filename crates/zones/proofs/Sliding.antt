@@ -1,7 +1,7 @@
 -- The zones that a checkpoint leaves: the lists that its steps make lie in the array and fit, and together they are the slide of model.
 -- Assumes nothing.
-use mathlib.Core.Path.{_≡_, sym, ap, _∙_}
-use mathlib.Core.Bool.{Bool, not}
+use mathlib.Core.Path.{_≡_, refl, sym, ap, _∙_}
+use mathlib.Core.Bool.{Bool, true, false, not, cond}
 use mathlib.Core.List.{List, [], _++_}
 use Prim.Native.Nat.{ℕ, _+_, _-_, _≤_}
 use native.Mathlib.Omega.{arith}
@@ -21,7 +21,7 @@ use Rattle.blocks.specs.Blocks.{blocksOf, listOf}
 use Rattle.blocks.proofs.Kept.{kept-list, kept-count}
 use Rattle.places.specs.Ids.{idsOf}
 use Rattle.refill.specs.Taking.{Fits}
-use Rattle.zones.specs.Judging.{idsIn, holdsBy, Ready, Room, Leaving}
+use Rattle.zones.specs.Judging.{idsIn, holdsBy, fullIs, Ready, Room, Leaving}
 use Rattle.zones.proofs.Picks.{length-those, all-those}
 use Rattle.zones.proofs.Wanted.{judged-by}
 use Rattle.zones.proofs.Listed.{ready-listed, unavailable-within}
@@ -34,6 +34,12 @@ kept-again r xs e = e ∙ ap blocksOf (sym (kept-list r xs e))
 kept-inside : (r : Blocks) (xs : List ℕ) → r ≡ blocksOf xs → r .n ≤ length (r .list)
 unfolding blocksOf padTo
 kept-inside r xs e = rw e (omega (arith, length-append xs (replicate (126 - length xs) 0)))
+
+-- those of some blocks that are full are the leavers, the others stay
+pub parts : (xs : List ℕ) (p : ℕ) (full : Bool) (bs : List ℕ) → those (fullIs xs p full) bs ≡ cond full (leaving xs p bs) (staying xs p bs)
+unfolding leaving staying
+parts xs p true bs = refl
+parts xs p false bs = refl
 
 -- ---- the unavailable blocks and then the leavers, judged: none is `out`, the first ones kept are `kept`
 module _ (xs : List ℕ) (p : ℕ) (z : Zones) (stay leave : Blocks) (h : Leaving xs p z stay leave) (out : Blocks) (eo : out ≡ blocksOf []) where

@@ -8,13 +8,13 @@ use lib.Dec.{eqb}
 use Rattle.model.specs.Lists.{any, keep}
 use Rattle.model.specs.Geometry.{geometryOk}
 use Rattle.model.specs.Page.{spareOf, pageAt, wholeAt}
-use Rattle.model.specs.Zones.{Entry, wholeFrom, zonesOk, unavailableOf}
+use Rattle.model.specs.Zones.{Entry, wholeFrom, isFull, zonesOk, unavailableOf}
 use Rattle.model.specs.declared.Geometry.{Geometry}
 use Rattle.model.specs.declared.Zones.{Zones}
 use Rattle.flash.specs.Ranges.{Within}
 use Rattle.blocks.specs.Blocks.{blocksOf, listOf}
 use Rattle.blocks.specs.declared.Blocks.{Blocks}
-use Rattle.places.specs.Ids.{activeIn}
+use Rattle.places.specs.Ids.{isId, activeIn}
 
 -- the identifier of page k, or 0 where the page is not whole
 unfoldable pub idAt : List ℕ → ℕ → ℕ
@@ -27,7 +27,7 @@ idsIn (e ∷ es) = keep (not (eqb (e .id) 0)) (e .id ∷ []) ++ idsIn es
 
 -- the identifier is active or among the near ones
 unfoldable pub wantedId : List ℕ → List ℕ → ℕ → Bool
-wantedId ids near id = not (eqb id 0) && (activeIn id ids || any (λ (x : ℕ). eqb x id) near)
+wantedId ids near id = not (eqb id 0) && (activeIn id ids || any (isId id) near)
 
 -- the same of an entry
 unfoldable pub wantedBy : List ℕ → List ℕ → Entry → Bool
@@ -36,6 +36,10 @@ wantedBy ids near e = wantedId ids near (e .id)
 -- a whole page of block b is wanted
 unfoldable pub holdsBy : List ℕ → ℕ → List ℕ → List ℕ → ℕ → Bool
 holdsBy xs p ids near b = any (wantedBy ids near) (wholeFrom xs (b * p) p)
+
+-- block b is full, or it is not
+abbrev pub fullIs : List ℕ → ℕ → Bool → ℕ → Bool
+fullIs xs p full b = cond full (isFull xs p b) (not (isFull xs p b))
 
 -- geometry, array and zone lists agree
 pub record Ready (g : Geometry) (xs : List ℕ) (z : Zones) : Type 0 where

@@ -3,17 +3,16 @@
 // A slide first lists the identifiers on whole pages of the near blocks, those still available: 3 of at most 64 pages, so at most 192. From
 // then on it compares numbers from spare areas, and a page of another block is classed, once, where its identifier is wanted.
 ghost use mathlib.Core.Path.{_≡_};
-ghost use mathlib.Core.Bool.{true};
-ghost use Prim.Native.Nat.{ℕ, _+_, _*_, _≤_, _<_};
-ghost use mathlib.Core.List.{_++_};
-ghost use lib.ListN.{length, take};
-ghost use lib.Dec.{eqb};
-ghost use Rattle.model.specs.Lists.{any, those, count, upFrom};
+ghost use mathlib.Core.Bool.{true, cond};
+ghost use Prim.Native.Nat.{_+_, _*_, _≤_, _<_};
+ghost use mathlib.Core.List.{[], _∷_, _++_};
+ghost use lib.ListN.{length, take, getD};
+ghost use Rattle.model.specs.Lists.{any, keep, those, count, upFrom};
 ghost use Rattle.model.specs.Page.{tornAt};
-ghost use Rattle.model.specs.Zones.{entryAt, wholeFrom, scanIn, scanOf, tornIn, onPages, isFull, staying, leaving, slide, unavailableOf};
+ghost use Rattle.model.specs.Zones.{entryAt, wholeFrom, scanIn, scanOf, tornIn, onPages, staying, leaving, slide, unavailableOf};
 ghost use Rattle.flash.specs.Ranges.{Within};
 ghost use Rattle.blocks.specs.Blocks.{blocksOf, listOf};
-ghost use Rattle.zones.specs.Judging.{idAt, idsIn, wantedId, wantedBy, holdsBy, Ready, Near, Room, Leaving};
+ghost use Rattle.zones.specs.Judging.{idAt, idsIn, wantedId, wantedBy, holdsBy, fullIs, Ready, Near, Room, Leaving};
 use blocks::Blocks;
 use model::Geometry;
 use model::Place;
@@ -33,17 +32,24 @@ fn has_id(array: &[u8], k: usize, id: u32) -> bool
     flash::is_whole(array, k)
 }
 
-/// Whether a whole page among the n from page k on has the identifier.
-fn id_from(array: &[u8], k: usize, n: usize, id: u32) -> bool
-    requires { ⌜ k * 528 + n * 528 ≤ length (now array) ⌝ }
-    ensures { λ r. ⌜ r ≡ onPages id (wholeFrom (now (array .entry)) k n) ⌝ }
+/// The first page of the i-th of some blocks.
+fn first_page(bs: &[u8], i: usize, pages: usize) -> usize
+    requires { ⌜ (i < length (now bs)) × (getD (now bs) i 0 * pages < 18446744073709551616) ⌝ }
+    ensures { λ r. ⌜ r ≡ getD (now (bs .entry)) i 0 * pages ⌝ }
 {
-    let mut i: usize = 0;
-    while i < n {
-        if has_id(array, k + i, id) {
+    bs[i] as usize * pages
+}
+
+/// Whether a whole page of the i-th block has the identifier.
+fn block_has_id(array: &[u8], pages: usize, bs: &[u8], i: usize, id: u32) -> bool
+    requires { ⌜ (i < length (now bs)) × (getD (now bs) i 0 * pages * 528 + pages * 528 ≤ length (now array)) ⌝ }
+    ensures { λ r. ⌜ r ≡ onPages id (wholeFrom (now (array .entry)) (getD (now (bs .entry)) i 0 * pages) pages) ⌝ }
+{
+    let first = first_page(bs, i, pages);
+    for j in 0..pages {
+        if has_id(array, first + j, id) {
             return true;
         }
-        i += 1;
     }
     false
 }
@@ -53,13 +59,10 @@ pub fn id_in(array: &[u8], pages: usize, bs: &[u8], id: u32) -> bool
     requires { ⌜ Within (length (now array)) pages (now bs) ⌝ }
     ensures { λ r. ⌜ r ≡ onPages id (scanIn (now (array .entry)) pages (now (bs .entry))) ⌝ }
 {
-    let mut i: usize = 0;
-    while i < bs.len() {
-        let b = bs[i] as usize;
-        if id_from(array, b * pages, pages, id) {
+    for i in 0..bs.len() {
+        if block_has_id(array, pages, bs, i, id) {
             return true;
         }
-        i += 1;
     }
     false
 }
@@ -80,18 +83,17 @@ pub fn id_scanned(g: Geometry, array: &[u8], z: Zones, id: u32) -> bool
     id_in(array, pages, &a[..na], id)
 }
 
-/// How many of the n pages from page k on are torn.
-fn torn_from(array: &[u8], k: usize, n: usize) -> usize
-    requires { ⌜ k * 528 + n * 528 ≤ length (now array) ⌝ }
-    ensures { λ r. ⌜ (r ≡ count (tornAt (now (array .entry))) (upFrom k n)) × (r ≤ n) ⌝ }
+/// How many pages of the i-th block are torn.
+fn block_torn(array: &[u8], pages: usize, bs: &[u8], i: usize) -> usize
+    requires { ⌜ (i < length (now bs)) × (getD (now bs) i 0 * pages * 528 + pages * 528 ≤ length (now array)) ⌝ }
+    ensures { λ r. ⌜ (r ≡ count (tornAt (now (array .entry))) (upFrom (getD (now (bs .entry)) i 0 * pages) pages)) × (r ≤ pages) ⌝ }
 {
+    let first = first_page(bs, i, pages);
     let mut torn: usize = 0;
-    let mut i: usize = 0;
-    while i < n {
-        if flash::is_torn(array, k + i) {
+    for j in 0..pages {
+        if flash::is_torn(array, first + j) {
             torn += 1;
         }
-        i += 1;
     }
     torn
 }
@@ -102,11 +104,8 @@ pub fn torn_in(array: &[u8], pages: usize, bs: &[u8]) -> usize
     ensures { λ r. ⌜ r ≡ tornIn (now (array .entry)) pages (now (bs .entry)) ⌝ }
 {
     let mut torn: usize = 0;
-    let mut i: usize = 0;
-    while i < bs.len() {
-        let b = bs[i] as usize;
-        torn += torn_from(array, b * pages, pages);
-        i += 1;
+    for i in 0..bs.len() {
+        torn += block_torn(array, pages, bs, i);
     }
     torn
 }
@@ -126,22 +125,20 @@ fn id_at(array: &[u8], k: usize) -> u32
     s.id
 }
 
-/// Lists the identifiers other than 0 of the whole pages among some from page k on, behind the n already listed; returns how many are listed.
-fn list_ids(array: &[u8], k: usize, pages: usize, near: &mut [u32], n: usize) -> usize
-    requires { ⌜ (k * 528 + pages * 528 ≤ length (now array)) × (n + pages ≤ length (now near)) ⌝ }
-    ensures { λ r. ⌜ (take r (now (near .exit)) ≡ take n (now (near .entry)) ++ idsIn (wholeFrom (now (array .entry)) k pages)) × (r ≤ n + pages) ⌝ }
+/// Lists the identifiers other than 0 of the whole pages of the i-th block, behind the n already listed; returns how many are listed.
+fn list_block(array: &[u8], pages: usize, bs: &[u8], i: usize, near: &mut [u32], n: usize) -> usize
+    requires { ⌜ ((i < length (now bs)) × (getD (now bs) i 0 * pages * 528 + pages * 528 ≤ length (now array))) × (n + pages ≤ length (now near)) ⌝ }
+    ensures { λ r. ⌜ (take r (now (near .exit)) ≡ take n (now (near .entry)) ++ idsIn (wholeFrom (now (array .entry)) (getD (now (bs .entry)) i 0 * pages) pages)) × (r ≤ n + pages) ⌝ }
 {
+    let first = first_page(bs, i, pages);
     let mut m = n;
-    let mut i: usize = 0;
-    while i < pages {
-        let id = id_at(array, k + i);
+    for j in 0..pages {
+        let id = id_at(array, first + j);
         if id == 0 {
-            i += 1;
             continue;
         }
         near[m] = id;
         m += 1;
-        i += 1;
     }
     m
 }
@@ -152,27 +149,10 @@ fn list_near(array: &[u8], pages: usize, bs: &[u8], near: &mut [u32]) -> usize
     ensures { λ r. ⌜ (take r (now (near .exit)) ≡ idsIn (scanIn (now (array .entry)) pages (now (bs .entry)))) × (r ≤ 192) ⌝ }
 {
     let mut n: usize = 0;
-    let mut i: usize = 0;
-    while i < bs.len() {
-        let b = bs[i] as usize;
-        n = list_ids(array, b * pages, pages, near, n);
-        i += 1;
+    for i in 0..bs.len() {
+        n = list_block(array, pages, bs, i, near, n);
     }
     n
-}
-
-/// Whether an identifier is among the near ones.
-fn is_near(near: &[u32], id: u32) -> bool
-    ensures { λ r. ⌜ r ≡ any (λ (x : ℕ). eqb x id) (now (near .entry)) ⌝ }
-{
-    let mut i: usize = 0;
-    while i < near.len() {
-        if near[i] == id {
-            return true;
-        }
-        i += 1;
-    }
-    false
 }
 
 /// Whether an identifier is of an active transaction or among the near ones.
@@ -185,7 +165,7 @@ fn is_wanted(ids: [u32; State::PLACES], near: &[u32], id: u32) -> bool
     if places::is_active_in(ids, id) {
         return true;
     }
-    is_near(near, id)
+    places::among(near, id)
 }
 
 /// Whether page k is whole and wanted.
@@ -212,14 +192,23 @@ fn holds_wanted(
     ensures { λ r. ⌜ r ≡ holdsBy (now (array .entry)) pages ids (now (near .entry)) b ⌝ }
 {
     let first = b * pages;
-    let mut i: usize = 0;
-    while i < pages {
+    for i in 0..pages {
         if page_wanted(array, ids, near, first + i) {
             return true;
         }
-        i += 1;
     }
     false
+}
+
+/// A kept list with b behind it if that is to be taken.
+fn with_if(bs: Blocks, b: u8, taken: bool) -> Blocks
+    requires { ⌜ (bs .n < 126) × (bs ≡ blocksOf (listOf bs)) ⌝ }
+    ensures { λ r. ⌜ r ≡ blocksOf (listOf bs ++ keep taken (b ∷ [])) ⌝ }
+{
+    if !taken {
+        return bs;
+    }
+    blocks::with(bs, b)
 }
 
 /// A list with those of some blocks behind it that have a whole page which is wanted.
@@ -235,62 +224,35 @@ fn judge(
     ensures { λ r. ⌜ r ≡ blocksOf (listOf out ++ those (holdsBy (now (array .entry)) pages ids (now (near .entry))) (now (bs .entry))) ⌝ }
 {
     let mut kept = out;
-    let mut i: usize = 0;
-    while i < bs.len() {
+    for i in 0..bs.len() {
         let b = bs[i];
-        if !holds_wanted(array, pages, ids, near, b as usize) {
-            i += 1;
-            continue;
-        }
-        kept = blocks::with(kept, b);
-        i += 1;
+        kept = with_if(kept, b, holds_wanted(array, pages, ids, near, b as usize));
     }
     kept
 }
 
-/// Whether block b has no clean page: its last one is not erased.
-fn is_full(array: &[u8], pages: usize, b: usize) -> bool
+/// Whether block b is full, so that it has no clean page; where `full` is false, whether it is not. It is where its last page is not erased.
+fn is_full(array: &[u8], pages: usize, b: usize, full: bool) -> bool
     requires { ⌜ (b * pages * 528 + pages * 528 ≤ length (now array)) × (1 ≤ pages) ⌝ }
-    ensures { λ r. ⌜ r ≡ isFull (now (array .entry)) pages b ⌝ }
+    ensures { λ r. ⌜ r ≡ fullIs (now (array .entry)) pages full b ⌝ }
 {
     let last = b * pages + (pages - 1);
-    !flash::is_blank(array, last)
-}
-
-/// Those of some blocks that are not full.
-fn staying(array: &[u8], pages: usize, bs: &[u8]) -> Blocks
-    requires { ⌜ Within (length (now array)) pages (now bs) × (1 ≤ pages) ⌝ }
-    ensures { λ r. ⌜ r ≡ blocksOf (staying (now (array .entry)) pages (now (bs .entry))) ⌝ }
-{
-    let mut out = blocks::none();
-    let mut i: usize = 0;
-    while i < bs.len() {
-        let b = bs[i];
-        if is_full(array, pages, b as usize) {
-            i += 1;
-            continue;
-        }
-        out = blocks::with(out, b);
-        i += 1;
+    let blank = flash::is_blank(array, last);
+    if full {
+        return !blank;
     }
-    out
+    blank
 }
 
-/// Those of some blocks that are full.
-fn leaving(array: &[u8], pages: usize, bs: &[u8]) -> Blocks
+/// Those of some blocks that are full, or those that are not.
+fn parted(array: &[u8], pages: usize, bs: &[u8], full: bool) -> Blocks
     requires { ⌜ Within (length (now array)) pages (now bs) × (1 ≤ pages) ⌝ }
-    ensures { λ r. ⌜ r ≡ blocksOf (leaving (now (array .entry)) pages (now (bs .entry))) ⌝ }
+    ensures { λ r. ⌜ r ≡ blocksOf (cond full (leaving (now (array .entry)) pages (now (bs .entry))) (staying (now (array .entry)) pages (now (bs .entry)))) ⌝ }
 {
     let mut out = blocks::none();
-    let mut i: usize = 0;
-    while i < bs.len() {
+    for i in 0..bs.len() {
         let b = bs[i];
-        if !is_full(array, pages, b as usize) {
-            i += 1;
-            continue;
-        }
-        out = blocks::with(out, b);
-        i += 1;
+        out = with_if(out, b, is_full(array, pages, b as usize, full));
     }
     out
 }
@@ -311,12 +273,13 @@ fn judged(
     let ns = stay.n;
     let mut near = [0u32; 192];
     let n = list_near(array, pages, &s[..ns], &mut near);
+    let listed = &near[..n];
     let u = z.unavailable;
     let nu = z.nu as usize;
     let l = leave.list;
     let nl = leave.n;
-    let kept = judge(blocks::none(), array, pages, ids, &near[..n], &u[..nu]);
-    judge(kept, array, pages, ids, &near[..n], &l[..nl])
+    let kept = judge(blocks::none(), array, pages, ids, listed, &u[..nu]);
+    judge(kept, array, pages, ids, listed, &l[..nl])
 }
 
 /// The zones that a checkpoint leaves.
@@ -328,8 +291,9 @@ pub fn slide(g: Geometry, array: &[u8], places: [Place; State::PLACES], z: Zones
     let ids = places::ids_of(places);
     let a = z.available;
     let na = z.na as usize;
-    let stay = staying(array, pages, &a[..na]);
-    let leave = leaving(array, pages, &a[..na]);
+    let available = &a[..na];
+    let stay = parted(array, pages, available, false);
+    let leave = parted(array, pages, available, true);
     let kept = judged(array, pages, ids, z, stay, leave);
     let free = blocks::free(z);
     let t = refill::refill(

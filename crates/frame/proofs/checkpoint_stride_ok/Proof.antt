@@ -2,14 +2,13 @@
 use mathlib.Core.Path.{_≡_, ap}
 use mathlib.Core.Bool.{true, not, _||_}
 use mathlib.Core.Logic.{⊎-elim}
-use Prim.Native.Nat.{_+_}
 use lib.Dec.{eqb}
 use native.Mathlib.Omega.{arith}
 use borrow.Author.Tests.{lt-ltb, le-ltb, le-leb, lt-leb, eq-eqb, ne-eqb}
 use Rattle.model.specs.Frame.{checkpointStrideOk}
 use Rattle.arrays.specs.Ranges.{geometry-in, maps-few}
 use Rattle.arrays.specs.Tests.{or-left, or-right}
-use Rattle.frame.proofs.Within.{front-page}
+use Rattle.frame.proofs.Within.{next-page}
 use borrow.Author.Needs.{needs}
 use Rattle.frame.proofs.checkpoint_stride_ok.Statement.{statement}
 use Rattle.frame.proofs.checkpoint_stride_ok.Tie as tie
@@ -42,11 +41,8 @@ returns-3 c = simp (← c .before .before .before .before .before .map-pages .en
 
 mul-is-blank : tie.Need-mul-is-blank
 mul-is-blank c =
-    let a = c .before .before .before .before .before .before .args in
-    let h = geometry-in (a .g) (c .before .before .before .before .before .before .pre .0 .shape) in
-    let m = maps-few (a .g) h in
-    let e = c .before .before .before .before .map-pages .ensures in
-    let f = front-page (a .g) (a .array .now) (a .front) (a .first + a .k) (c .before .before .before .before .before .before .pre .0) (c .before .before .before .before .before .before .pre .1) (omega arith) in
+    let s = c .before .before .before .before .before .before in
+    let f = next-page (s .args .g) (s .args .array .now) (s .args .front) (s .args .first) _ (s .args .k) (s .pre .0) (s .pre .1) (c .before .before .if1 .left) (c .before .if2 .left) in
     omega arith
 
 add-is-blank : tie.Need-add-is-blank
@@ -54,20 +50,14 @@ add-is-blank c = search needs
 
 add-is-blank-2 : tie.Need-add-is-blank-2
 add-is-blank-2 c =
-    let a = c .before .before .before .before .before .before .args in
-    let h = geometry-in (a .g) (c .before .before .before .before .before .before .pre .0 .shape) in
-    let m = maps-few (a .g) h in
-    let e = c .before .before .before .before .map-pages .ensures in
-    let f = front-page (a .g) (a .array .now) (a .front) (a .first + a .k) (c .before .before .before .before .before .before .pre .0) (c .before .before .before .before .before .before .pre .1) (omega arith) in
+    let s = c .before .before .before .before .before .before in
+    let f = next-page (s .args .g) (s .args .array .now) (s .args .front) (s .args .first) _ (s .args .k) (s .pre .0) (s .pre .1) (c .before .before .if1 .left) (c .before .if2 .left) in
     omega arith
 
 is-blank-requires : tie.Need-is-blank-requires
 is-blank-requires c κs =
-    let a = c .before .before .before .before .before .before .args in
-    let h = geometry-in (a .g) (c .before .before .before .before .before .before .pre .0 .shape) in
-    let m = maps-few (a .g) h in
-    let e = c .before .before .before .before .map-pages .ensures in
-    let f = front-page (a .g) (a .array .now) (a .front) (a .first + a .k) (c .before .before .before .before .before .before .pre .0) (c .before .before .before .before .before .before .pre .1) (omega arith) in
+    let s = c .before .before .before .before .before .before in
+    let f = next-page (s .args .g) (s .args .array .now) (s .args .front) (s .args .first) _ (s .args .k) (s .pre .0) (s .pre .1) (c .before .before .if1 .left) (c .before .if2 .left) in
     omega arith
 
 returns-4 : tie.Need-returns-4

@@ -1,98 +1,65 @@
--- `frame::is_alone` meets its contract. The loop's invariant: no place after place `i` and before place `j` has its identifier. Assumes nothing.
-use mathlib.Core.Path.{_≡_, sym, ap}
+-- `frame::is_alone` meets its contract: by `among` of the later ones, by `alone-later`. Assumes nothing.
+use mathlib.Core.Path.{_≡_, ap, _∙_}
 use mathlib.Core.Bool.{not}
-use Prim.Native.Nat.{ℕ, _+_, _-_, _≤_, _<_}
-use lib.ListN.{length, drop, getD}
-use lib.Dec.{eqb}
-use borrow.Author.Tests.{eq-eqb, ne-eqb}
-use Rattle.model.specs.Lists.{all}
-use Rattle.blocks.proofs.Loops.{all-pass, all-fail, all-end}
+use Prim.Native.Nat.{_+_, _-_}
+use native.Mathlib.Omega.{arith}
+use lib.ListN.{length, getD, drop, length-drop}
+use lib.Seq.{take-all}
+use borrow.Author.Tests.{eq-eqb}
 use Rattle.frame.specs.Ids.{idAlone}
+use Rattle.frame.proofs.Places.{alone-later}
 use borrow.Author.Needs.{needs}
 use Rattle.frame.proofs.is_alone.Statement.{statement}
 use Rattle.frame.proofs.is_alone.Tie as tie
 
-abbrev Inv-loop : tie.InvT-loop
-Inv-loop i ids id j₀ j = (j ≤ 8) × ((i < 8) × ((id ≡ getD ids i 0) × ((length ids ≡ 8) × (all (λ (x : ℕ). not (eqb x id)) (drop (i + 1) ids) ≡ all (λ (x : ℕ). not (eqb x id)) (drop j ids)))))
-
-abbrev μ-loop : tie.MeasureT-loop
-μ-loop i ids id j₀ j = 8 - j
-
-mul-id : tie.Need-mul-id Inv-loop μ-loop
+mul-id : tie.Need-mul-id
 mul-id c = search needs
 
-array-read-id : tie.Need-array-read-id Inv-loop μ-loop
+array-read-id : tie.Need-array-read-id
 array-read-id c = search needs
 
-returns : tie.Need-returns Inv-loop μ-loop
+returns : tie.Need-returns
 unfolding idAlone
 returns c = simp (eq-eqb _ _ (c .if1 .taken))
 
-add-j : tie.Need-add-j Inv-loop μ-loop
+add-j : tie.Need-add-j
 add-j c = search needs
 
-loop-holds : tie.Need-loop-holds Inv-loop μ-loop
-loop-holds c = search needs
+mul-among : tie.Need-mul-among
+mul-among c = search needs
 
-mul-if2 : tie.Need-mul-if2 Inv-loop μ-loop
-mul-if2 c = search needs
+sub-among : tie.Need-sub-among
+sub-among c = search needs
 
-array-read-if2 : tie.Need-array-read-if2 Inv-loop μ-loop
-array-read-if2 c = search needs
+part-among-start : tie.Need-part-among-start
+part-among-start c = search needs
 
-returns-2 : tie.Need-returns-2 Inv-loop μ-loop
-unfolding idAlone
+part-among-end : tie.Need-part-among-end
+part-among-end c = search needs
+
+among-requires : tie.Need-among-requires
+among-requires c κs = search needs
+
+returns-2 : tie.Need-returns-2
 returns-2 c =
-    let q = c .before .before in
-    let a = q .before .before .args in
-    simp (ne-eqb _ _ (q .before .if1 .left))
-    (sym (all-fail (λ (x : ℕ). not (eqb x (getD (a .t1) (a .i) 0))) (a .t1) (q .loop .j) 0 (search needs) (q .loop .inv .1 .1 .1 .1) (ap not (eq-eqb _ _ (c .if2 .taken)))))
-
-add-j-2 : tie.Need-add-j-2 Inv-loop μ-loop
-add-j-2 c = search needs
-
-loop-less : tie.Need-loop-less Inv-loop μ-loop
-loop-less c = search needs
-
-loop-again : tie.Need-loop-again Inv-loop μ-loop
-loop-again c =
-    let q = c .before .before in
-    let a = q .before .before .args in (
-      search needs,
-      (
-        search needs,
-        (
-          search needs,
-          (
-            search needs,
-            all-pass (λ (x : ℕ). not (eqb x (getD (a .t1) (a .i) 0))) (a .t1) (q .loop .j) 0 (search needs) (q .loop .inv .1 .1 .1 .1) (ap not (ne-eqb _ _ (c .if2 .left))),
-          ),
-        ),
-      ),
-    )
-
-returns-3 : tie.Need-returns-3 Inv-loop μ-loop
-unfolding idAlone
-returns-3 c =
-    let q = c .before in
-    let a = q .before .before .args in
-    simp (ne-eqb _ _ (q .before .if1 .left)) (sym (all-end (λ (x : ℕ). not (eqb x (getD (a .t1) (a .i) 0))) (a .t1) (q .loop .j) (search needs) (q .loop .inv .1 .1 .1 .1)))
+    let t = c .before .before .before in
+    let a = t .before .args in
+    let l : length (a .t1) ≡ 8 = search needs in
+    let later = drop (a .i + 1) (a .t1) in
+    let e = take-all (8 - (a .i + 1)) later (omega (arith, length-drop (a .i + 1) (a .t1))) in
+    ap not (rw e at (c .among .ensures)) ∙ alone-later (getD (a .t1) (a .i) 0) later (t .if1 .left)
 
 pub is-alone-spec : {M : Type 1} → statement M
 is-alone-spec =
     tie.close
     (tie.spec
-    Inv-loop
-    μ-loop
     mul-id
     array-read-id
     returns
     add-j
-    loop-holds
-    mul-if2
-    array-read-if2
-    returns-2
-    add-j-2
-    loop-less
-    loop-again
-    returns-3)
+    mul-among
+    sub-among
+    part-among-start
+    part-among-end
+    among-requires
+    returns-2)

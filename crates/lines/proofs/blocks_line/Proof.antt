@@ -23,7 +23,10 @@ same-length c = search needs
 
 returns : tie.Need-returns
 unfolding blocksLine
-returns c = put-within (puts (puts (c .before .before .before .before .before .before .before .before .before .before .before .put .ensures) (c .before .before .before .before .before .before .before .put-list .ensures)) (c .before .before .put2 .ensures)) (omega arith)
+returns c =
+    let three = c .before .before in
+    let two = three .before .before .before .before .before in
+    put-within (puts (puts (two .before .before .before .before .put .ensures) (two .put-list .ensures)) (three .put2 .ensures)) (omega arith)
 
 pub blocks-line-spec : {M : Type 1} → statement M
 blocks-line-spec =

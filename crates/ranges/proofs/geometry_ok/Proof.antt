@@ -48,7 +48,8 @@ sub-if7 c = search needs
 
 mul-if7 : tie.Need-mul-if7
 mul-if7 c =
-    let g = c .before .before .before .before .before .before .before .before .before .before .before .before .before .before .args .g in
+    let l4 = c .before .before .before .before in
+    let g = l4 .before .before .before .before .before .before .before .before .before .before .args .g in
     let p : g .pages ≤ 64 = omega arith in
     let x = mul-le-mul-left (g .blocks - 6) p in
     let y : (g .blocks - 6) * g .pages < 65536 = omega arith in

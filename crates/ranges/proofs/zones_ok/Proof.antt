@@ -1,6 +1,6 @@
 -- `ranges::zones_ok` meets its contract: the counts, then the lists one after the other. Assumes nothing.
 use mathlib.Core.Path.{_≡_, sym, ap, _∙_}
-use Prim.Native.Nat.{_+_}
+use Prim.Native.Nat.{_+_, _-_, _≤_}
 use native.Mathlib.Omega.{arith}
 use mathlib.Core.List.{_++_}
 use lib.ListN.{length, take, length-append}
@@ -29,6 +29,20 @@ module _ (s : lts.Start (listed-reads.Asked, listed-reads.Learnt, lists-ok-reads
   free-long : length (s .args .z .free) ≡ 126
   free-long = search needs
 
+  -- with the counts in range, the lists together are as long as these say, and at most 126
+  listed-long : s .args .z .na + s .args .z .nu + s .args .z .nf ≤ s .args .g .blocks - 2 → s .args .z .na ≤ 3
+      → (length (listedIn (s .args .z)) ≡ s .args .z .na + (s .args .z .nu + s .args .z .nf)) × (s .args .z .na + (s .args .z .nu + s .args .z .nf) ≤ 126)
+  listed-long n f =
+      let z = s .args .z in
+      let h = geometry-in (s .args .g) (s .pre) in
+      let la = available-long in
+      let lu = unavailable-long in
+      let lf = free-long in
+      let ka = length-take-le (z .na) (z .available) (omega arith) in
+      let ku = length-take-le (z .nu) (z .unavailable) (omega arith) in
+      let kf = length-take-le (z .nf) (z .free) (omega arith) in
+      (omega (arith, length-append (availableOf z) (unavailableOf z ++ freeOf z), length-append (unavailableOf z) (freeOf z)), omega arith)
+
 cast-na : tie.Need-cast-na
 cast-na c = search needs
 
@@ -49,9 +63,8 @@ cast-if1 c = search needs
 
 sub-if1 : tie.Need-sub-if1
 sub-if1 c =
-    let z = c .before .before .before .before .args .z in
-    let g = c .before .before .before .before .args .g in
-    let h = geometry-in g (c .before .before .before .before .pre) in
+    let s = c .before .before .before .before in
+    let h = geometry-in (s .args .g) (s .pre) in
     omega arith
 
 returns : tie.Need-returns
@@ -64,60 +77,35 @@ returns-2 c = simp (le-leb _ _ (c .before .if1 .left), lt-leb _ _ (c .if2 .taken
 
 listed-requires : tie.Need-listed-requires
 listed-requires c κs =
-    let z = c .before .before .before .before .before .before .args .z in
-    let g = c .before .before .before .before .before .before .args .g in
-    let h = geometry-in g (c .before .before .before .before .before .before .pre) in
+    let s = c .before .before .before .before .before .before in
+    let h = geometry-in (s .args .g) (s .pre) in
     record { available = omega arith; all = omega arith }
 
 array-share-prefix-list : tie.Need-array-share-prefix-list
 array-share-prefix-list c =
-    let z = c .before .before .before .before .before .before .before .before .args .z in
-    let g = c .before .before .before .before .before .before .before .before .args .g in
-    let h = geometry-in g (c .before .before .before .before .before .before .before .before .pre) in
-    let la : length (z .available) ≡ 3 = search needs in
-    let lu : length (z .unavailable) ≡ 126 = search needs in
-    let lf : length (z .free) ≡ 126 = search needs in
-    let ka = length-take-le (z .na) (z .available) (omega arith) in
-    let ku = length-take-le (z .nu) (z .unavailable) (omega arith) in
-    let kf = length-take-le (z .nf) (z .free) (omega arith) in
-    let k = kept-count (c .before .listed .result) (listedIn z) (c .before .listed .ensures) in
-    let l : length (listedIn z) ≡ z .na + (z .nu + z .nf) = omega (arith, length-append (availableOf z) (unavailableOf z ++ freeOf z), length-append (unavailableOf z) (freeOf z)) in
-    let m : length (c .before .listed .result .list) ≡ 126 = search needs in
+    let r = c .before in
+    let s = r .before .before .before .before .before .before .before in
+    let k = kept-count (r .listed .result) (listedIn (s .args .z)) (r .listed .ensures) in
+    let l = listed-long s (omega arith) (omega arith) in
+    let m : length (r .listed .result .list) ≡ 126 = search needs in
     omega arith
 
 slice-aggregate-lists-ok : tie.Need-slice-aggregate-lists-ok
 slice-aggregate-lists-ok c =
-    let z = c .before .before .before .before .before .before .before .before .before .args .z in
-    let g = c .before .before .before .before .before .before .before .before .before .args .g in
-    let h = geometry-in g (c .before .before .before .before .before .before .before .before .before .pre) in
-    let la : length (z .available) ≡ 3 = search needs in
-    let lu : length (z .unavailable) ≡ 126 = search needs in
-    let lf : length (z .free) ≡ 126 = search needs in
-    let ka = length-take-le (z .na) (z .available) (omega arith) in
-    let ku = length-take-le (z .nu) (z .unavailable) (omega arith) in
-    let kf = length-take-le (z .nf) (z .free) (omega arith) in
-    let k = kept-count (c .before .before .listed .result) (listedIn z) (c .before .before .listed .ensures) in
-    let l : length (listedIn z) ≡ z .na + (z .nu + z .nf) = omega (arith, length-append (availableOf z) (unavailableOf z ++ freeOf z), length-append (unavailableOf z) (freeOf z)) in
-    let m : length (c .before .before .listed .result .list) ≡ 126 = search needs in
-    sym (length-take-le (c .before .before .listed .result .n) (c .before .before .listed .result .list) (omega arith))
+    let r = c .before .before in
+    let s = r .before .before .before .before .before .before .before in
+    let k = kept-count (r .listed .result) (listedIn (s .args .z)) (r .listed .ensures) in
+    let l = listed-long s (omega arith) (omega arith) in
+    let m : length (r .listed .result .list) ≡ 126 = search needs in
+    sym (length-take-le (r .listed .result .n) (r .listed .result .list) (omega arith))
 
 lists-ok-requires : tie.Need-lists-ok-requires
 lists-ok-requires c κs =
-    let z = c .before .before .before .before .before .before .before .before .before .args .z in
-    let g = c .before .before .before .before .before .before .before .before .before .args .g in
-    let h = geometry-in g (c .before .before .before .before .before .before .before .before .before .pre) in
-    let la : length (z .available) ≡ 3 = search needs in
-    let lu : length (z .unavailable) ≡ 126 = search needs in
-    let lf : length (z .free) ≡ 126 = search needs in
-    let ka = length-take-le (z .na) (z .available) (omega arith) in
-    let ku = length-take-le (z .nu) (z .unavailable) (omega arith) in
-    let kf = length-take-le (z .nf) (z .free) (omega arith) in
-    let r = c .before .before .listed .result in
-    let e = kept-list r (listedIn z) (c .before .before .listed .ensures) in
-    let k = kept-count (c .before .before .listed .result) (listedIn z) (c .before .before .listed .ensures) in
-    let l : length (listedIn z) ≡ z .na + (z .nu + z .nf) = omega (arith, length-append (availableOf z) (unavailableOf z ++ freeOf z), length-append (unavailableOf z) (freeOf z)) in
-    let m : length (take (r .n) (r .list)) ≡ length (listedIn z) = ap length e in
-    record { shape = c .before .before .before .before .before .before .before .before .before .pre; parts = omega arith; all = omega arith }
+    let r = c .before .before in
+    let s = r .before .before .before .before .before .before .before in
+    let l = listed-long s (omega arith) (omega arith) in
+    let m = ap length (kept-list (r .listed .result) (listedIn (s .args .z)) (r .listed .ensures)) in
+    record { shape = s .pre; parts = omega arith; all = omega arith }
 
 returns-3 : tie.Need-returns-3
 unfolding zonesOk

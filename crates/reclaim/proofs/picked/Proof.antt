@@ -73,7 +73,7 @@ loop-again : tie.Need-loop-again Inv-loop μ-loop
 loop-again c =
     let l = c .before .before in
     let v = l .loop .inv .1 .1 .1 in
-    let last = c .before .before .before .before .before .before .before .before .before .before .before .args .s .geometry .blocks in
+    let last = l .before .before .before .before .before .before .before .before .before .args .s .geometry .blocks in
     (omega arith, (omega arith, (omega arith, (v .0, (v .1 .0, v .1 .1 ∙ pick-pass (c .before .before .before .with-listed .result) (l .loop .b) last (foundOf (l .loop .best)) (omega arith) (omega arith))))))
 
 mul-least : tie.Need-mul-least Inv-loop μ-loop
@@ -93,13 +93,13 @@ unfolding leastOf
 loop-again-2 c =
     let l = c .before .before in
     let v = l .loop .inv .1 .1 .1 in
-    let last = c .before .before .before .before .before .before .before .before .before .before .before .args .s .geometry .blocks in
+    let last = l .before .before .before .before .before .before .before .before .before .args .s .geometry .blocks in
     (omega arith, (omega arith, (omega arith, (v .0, (refl, v .1 .1 ∙ pick-hit (c .before .before .before .with-listed .result) (l .loop .b) last (foundOf (l .loop .best)) (omega arith) (omega arith))))))
 
 returns : tie.Need-returns Inv-loop μ-loop
 returns c =
     let l = c .before in
-    let s = c .before .before .before .before .before .before .before .before .before .before in
+    let s = l .before .before .before .before .before .before .before .before .before in
     let z = s .args .s .zones in
     let m = c .before .before .before .before .mapped in
     let last = s .args .s .geometry .blocks in

@@ -9,35 +9,23 @@ use Rattle.zones.proofs.id_in.Statement.{statement}
 use Rattle.zones.proofs.id_in.Tie as tie
 
 abbrev Inv-loop : tie.InvT-loop
-Inv-loop array pages bs id i₀ i = (i ≤ length bs) × (onPages id (scanIn array pages bs) ≡ onPages id (scanIn array pages (drop i bs)))
+Inv-loop array pages bs id i₀ end i = (i ≤ length bs) × ((end ≡ length bs) × (onPages id (scanIn array pages bs) ≡ onPages id (scanIn array pages (drop i bs))))
 
 abbrev μ-loop : tie.MeasureT-loop
-μ-loop array pages bs id i₀ i = length bs - i
+μ-loop array pages bs id i₀ end i = length bs - i
 
 loop-holds : tie.Need-loop-holds Inv-loop μ-loop
-loop-holds c = (omega arith, refl)
+loop-holds c = (omega arith, (refl, refl))
 
-shared-slice-read-b : tie.Need-shared-slice-read-b Inv-loop μ-loop
-shared-slice-read-b c = omega arith
-
-cast-b : tie.Need-cast-b Inv-loop μ-loop
-cast-b c = omega (arith, c .shared-slice-known3 .given (c .before .before .loop .i))
-
-mul-id-from : tie.Need-mul-id-from Inv-loop μ-loop
-mul-id-from c =
-    let l = c .before .before in
-    let w = l .before .before .before .pre .each (l .loop .i) (c .before .loop-test .taken) in
-    omega arith
-
-id-from-requires : tie.Need-id-from-requires Inv-loop μ-loop
-id-from-requires c κs =
-    let l = c .before .before in
-    l .before .before .before .pre .each (l .loop .i) (c .before .loop-test .taken)
+block-has-id-requires : tie.Need-block-has-id-requires Inv-loop μ-loop
+block-has-id-requires c κs =
+    let l = c .before in
+    (omega arith, l .before .before .before .pre .each (l .loop .i) (omega arith))
 
 returns : tie.Need-returns Inv-loop μ-loop
 returns c =
-    let l = c .before .before .before .before in
-    sym (block-hit _ _ _ (l .before .before .before .args .bs .now) (l .loop .i) (l .loop .inv .1) (omega arith) (sym (c .before .id-from .ensures) ∙ c .if1 .taken))
+    let l = c .before .before .before in
+    sym (block-hit _ _ _ (l .before .before .before .args .bs .now) (l .loop .i) (l .loop .inv .1 .1) (omega arith) (sym (c .before .block-has-id .ensures) ∙ c .if1 .taken))
 
 add-i : tie.Need-add-i Inv-loop μ-loop
 add-i c = omega arith
@@ -47,13 +35,13 @@ loop-less c = omega arith
 
 loop-again : tie.Need-loop-again Inv-loop μ-loop
 loop-again c =
-    let l = c .before .before .before .before in
-    (omega arith, block-more _ _ _ (l .before .before .before .args .bs .now) (l .loop .i) (l .loop .inv .1) (omega arith) (sym (c .before .id-from .ensures) ∙ c .if1 .left))
+    let l = c .before .before .before in
+    (omega arith, (l .loop .inv .1 .0, block-more _ _ _ (l .before .before .before .args .bs .now) (l .loop .i) (l .loop .inv .1 .1) (omega arith) (sym (c .before .block-has-id .ensures) ∙ c .if1 .left)))
 
 returns-2 : tie.Need-returns-2 Inv-loop μ-loop
 returns-2 c =
     let l = c .before in
-    sym (block-end _ _ _ (l .before .before .before .args .bs .now) (l .loop .i) (l .loop .inv .1) (omega arith))
+    sym (block-end _ _ _ (l .before .before .before .args .bs .now) (l .loop .i) (l .loop .inv .1 .1) (omega arith))
 
 pub id-in-spec : {M : Type 1} → statement M
 id-in-spec =
@@ -62,10 +50,7 @@ id-in-spec =
     Inv-loop
     μ-loop
     loop-holds
-    shared-slice-read-b
-    cast-b
-    mul-id-from
-    id-from-requires
+    block-has-id-requires
     returns
     add-i
     loop-less

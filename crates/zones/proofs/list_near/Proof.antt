@@ -5,42 +5,31 @@ use mathlib.Core.List.{_++_}
 use Prim.Native.Nat.{_-_, _*_, _≤_}
 use native.Mathlib.Omega.{arith}
 use lib.ListN.{length, take, drop}
-use borrow.Author.Needs.{needs}
 use Rattle.model.specs.Zones.{scanIn}
 use Rattle.zones.specs.Judging.{idsIn}
 use Rattle.zones.proofs.Near.{block-listed, blocks-listed}
+use borrow.Author.Needs.{needs}
 use Rattle.zones.proofs.list_near.Statement.{statement}
 use Rattle.zones.proofs.list_near.Tie as tie
 
 abbrev Inv-loop : tie.InvT-loop
-Inv-loop array pages bs near₀ n₀ i₀ near n i =
+Inv-loop array pages bs near₀ n₀ i₀ end near n i =
     (i ≤ length bs)
+    × ((end ≡ length bs)
     × ((n ≤ i * 64)
     × ((length near ≡ 192)
-    × (take n near ++ idsIn (scanIn array pages (drop i bs)) ≡ idsIn (scanIn array pages bs))))
+    × (take n near ++ idsIn (scanIn array pages (drop i bs)) ≡ idsIn (scanIn array pages bs)))))
 
 abbrev μ-loop : tie.MeasureT-loop
-μ-loop array pages bs near₀ n₀ i₀ near n i = length bs - i
+μ-loop array pages bs near₀ n₀ i₀ end near n i = length bs - i
 
 loop-holds : tie.Need-loop-holds Inv-loop μ-loop
-loop-holds c = (omega arith, (omega arith, (search needs, refl)))
+loop-holds c = (omega arith, (refl, (omega arith, (search needs, refl))))
 
-shared-slice-read-b : tie.Need-shared-slice-read-b Inv-loop μ-loop
-shared-slice-read-b c = omega arith
-
-cast-b : tie.Need-cast-b Inv-loop μ-loop
-cast-b c = omega (arith, c .shared-slice-known3 .given (c .before .before .loop .i))
-
-mul-list-ids : tie.Need-mul-list-ids Inv-loop μ-loop
-mul-list-ids c =
+list-block-requires : tie.Need-list-block-requires Inv-loop μ-loop
+list-block-requires c κs =
     let l = c .before .before in
-    let w = l .before .before .before .before .pre .0 .inside .each (l .loop .i) (c .before .loop-test .taken) in
-    omega arith
-
-list-ids-requires : tie.Need-list-ids-requires Inv-loop μ-loop
-list-ids-requires c κs =
-    let l = c .before .before .before in
-    (l .before .before .before .before .pre .0 .inside .each (l .loop .i) (c .before .before .loop-test .taken), omega arith)
+    ((omega arith, l .before .before .before .before .pre .0 .inside .each (l .loop .i) (omega arith)), omega arith)
 
 add-i : tie.Need-add-i Inv-loop μ-loop
 add-i c = omega arith
@@ -50,9 +39,10 @@ loop-less c = omega arith
 
 loop-again : tie.Need-loop-again Inv-loop μ-loop
 loop-again c =
-    let l = c .before .before .before .before .before .before in
+    let f = c .before .before in
+    let l = f .before .before .before in
     let a = l .before .before .before .before .args in
-    (omega arith, (omega arith, (search needs, block-listed (a .array .now) (a .pages) (a .bs .now) (l .loop .i) _ (take (l .loop .n) (l .loop .near)) (l .loop .inv .1 .1 .1) _ (c .before .before .list-ids .ensures .0) (omega arith))))
+    (omega arith, (l .loop .inv .1 .0, (omega arith, (search needs, block-listed (a .array .now) (a .pages) (a .bs .now) (l .loop .i) _ (take (l .loop .n) (l .loop .near)) (l .loop .inv .1 .1 .1 .1) _ (f .list-block .ensures .0) (omega arith)))))
 
 same-length : tie.Need-same-length Inv-loop μ-loop
 same-length c = search needs
@@ -61,7 +51,7 @@ returns : tie.Need-returns Inv-loop μ-loop
 returns c =
     let l = c .before in
     let a = l .before .before .before .before .args in
-    (blocks-listed (a .array .now) (a .pages) (a .bs .now) (l .loop .i) _ _ (l .loop .inv .1 .1 .1) (omega arith), omega arith)
+    (blocks-listed (a .array .now) (a .pages) (a .bs .now) (l .loop .i) _ _ (l .loop .inv .1 .1 .1 .1) (omega arith), omega arith)
 
 pub list-near-spec : {M : Type 1} → statement M
 list-near-spec =
@@ -70,10 +60,7 @@ list-near-spec =
     Inv-loop
     μ-loop
     loop-holds
-    shared-slice-read-b
-    cast-b
-    mul-list-ids
-    list-ids-requires
+    list-block-requires
     add-i
     loop-less
     loop-again
