@@ -3,6 +3,7 @@
 ghost use Prim.Native.Nat.{_<_};
 ghost use lib.ListN.{length};
 use device::Device;
+use device::Reply;
 use model::Geometry;
 use model::Spare;
 use model::State;
@@ -16,50 +17,135 @@ fn tell(n: u8) {
     io::print_decimal(1, n as u64);
 }
 
-/// Formats an array, from the first stride to the one that does not answer more; a line with the answers.
-fn formatted(array: &mut [u8], map: &mut [u16], hold: &[u8], g: Geometry) -> Device {
-    io::write_all(1, b"format:");
-    let s = State::fresh(g);
-    let mut d = Device { state: s };
+/// The commands that are given again and again.
+enum Command {
+    Format,
+    Write,
+    Checkpoint,
+}
+
+/// What came of a command that was given again and again: the device, how often it went on, and the last answer.
+struct Repeated {
+    device: Device,
+    turns: u8,
+    answer: u8,
+}
+
+/// Gives a command once: a stride of a format, a page of change 1, or a stride of a checkpoint.
+fn give(
+    d: Device,
+    array: &mut [u8],
+    map: &mut [u16],
+    hold: &mut [u8],
+    g: Geometry,
+    command: Command,
+) -> Reply {
+    match command {
+        Command::Format => d.format(array, map, hold, g),
+        Command::Write => {
+            let data = [0u8; Spare::DATA];
+            d.write(array, map, hold, 1, 0, &data)
+        }
+        Command::Checkpoint => d.checkpoint(array, map, hold),
+    }
+}
+
+/// Writes what is seen of a command after each turn: of a format the answer, of a write nothing, of a checkpoint a line with the last checkpoint's
+/// number, the answer, the front block and a byte.
+fn show(command: Command, s: State, answer: u8, byte: u8) {
+    match command {
+        Command::Format => tell(answer),
+        Command::Write => {}
+        Command::Checkpoint => line(s.checkpoint, answer, s.front, byte),
+    }
+}
+
+/// Whether a command is given again after an answer: a format that has more to do, a write that is done, a checkpoint always.
+fn goes_on(command: Command, answer: u8) -> bool {
+    match command {
+        Command::Format => answer == 255,
+        Command::Write => answer == 0,
+        Command::Checkpoint => true,
+    }
+}
+
+/// Gives a command until it does not go on, or so many times; the byte that is shown is the first of block 1.
+fn repeat(
+    device: Device,
+    array: &mut [u8],
+    map: &mut [u16],
+    hold: &mut [u8],
+    g: Geometry,
+    command: Command,
+    times: u8,
+) -> Repeated
+    requires { ⌜ 4224 < length (now array) ⌝ }
+{
+    let mut d = device;
+    let mut answer: u8 = 0;
     let mut turns: u8 = 0;
-    while turns < 200 {
-        let r = d.format(array, map, hold, g);
+    while turns < times {
+        let r = give(d, array, map, hold, g, command);
         let t = r.device;
         let a = r.answer;
         d = t;
-        let answer = answers::number(a);
-        tell(answer);
-        if answer != 255 {
-            io::write_all(1, b"\n");
-            return d;
+        answer = answers::number(a);
+        let s = t.state;
+        show(command, s, answer, array[BLOCK_1]);
+        if !goes_on(command, answer) {
+            break;
         }
         turns += 1;
     }
-    d
+    Repeated {
+        device: d,
+        turns,
+        answer,
+    }
+}
+
+/// Formats an array, from the first stride to the one that does not answer more; a line with the answers.
+fn formatted(array: &mut [u8], map: &mut [u16], hold: &mut [u8], g: Geometry) -> Device
+    requires { ⌜ 4224 < length (now array) ⌝ }
+{
+    io::write_all(1, b"format:");
+    let s = State::fresh(g);
+    let d = Device { state: s };
+    let r = repeat(d, array, map, hold, g, Command::Format, 200);
+    io::write_all(1, b"\n");
+    r.device
 }
 
 /// Opens a change and writes pages to it until a write is not done; a line with the pages that went and the answer to the next.
-fn written(device: Device, array: &mut [u8], map: &[u16], hold: &mut [u8]) -> Device {
+fn written(
+    device: Device,
+    array: &mut [u8],
+    map: &mut [u16],
+    hold: &mut [u8],
+    g: Geometry,
+) -> Device
+    requires { ⌜ 4224 < length (now array) ⌝ }
+{
     io::write_all(1, b"pages written, answer to the next:");
-    let data = [0u8; Spare::DATA];
-    let r = device.begin(array, map, hold, 1);
-    let mut d = r.device;
-    let mut pages: u8 = 0;
-    while pages < 200 {
-        let r = d.write(array, map, hold, 1, 0, &data);
-        let t = r.device;
-        let a = r.answer;
-        d = t;
-        let answer = answers::number(a);
-        if answer != 0 {
-            tell(pages);
-            tell(answer);
-            io::write_all(1, b"\n");
-            return d;
-        }
-        pages += 1;
-    }
-    d
+    let b = device.begin(array, map, hold, 1);
+    let d = b.device;
+    let r = repeat(d, array, map, hold, g, Command::Write, 200);
+    tell(r.turns);
+    tell(r.answer);
+    io::write_all(1, b"\n");
+    r.device
+}
+
+/// Recovers, and ends a line with the answer and the page that logical page 0 then stands on.
+fn recovered(d: Device, array: &[u8], map: &mut [u16], hold: &[u8], g: Geometry)
+    requires { ⌜ 0 < length (now map) ⌝ }
+{
+    let r = d.recover(array, map, hold, g);
+    let a = r.answer;
+    tell(answers::number(a));
+    io::write_all(1, b" ");
+    io::print_decimal(1, map[0] as u64);
+    io::write_all(1, b"\n");
 }
 
 /// Commits that change and recovers; a line with both answers and the page that logical page 0 then stands on.
@@ -71,12 +157,7 @@ fn kept(device: Device, array: &mut [u8], map: &mut [u16], hold: &[u8], g: Geome
     let d = r.device;
     let a = r.answer;
     tell(answers::number(a));
-    let r = d.recover(array, map, hold, g);
-    let a = r.answer;
-    tell(answers::number(a));
-    io::write_all(1, b" ");
-    io::print_decimal(1, map[0] as u64);
-    io::write_all(1, b"\n");
+    recovered(d, array, map, hold, g);
 }
 
 /// A line of four numbers.
@@ -86,35 +167,6 @@ fn line(number: u32, answer: u8, front: u8, byte: u8) {
     tell(front);
     tell(byte);
     io::write_all(1, b"\n");
-}
-
-/// One stride of a checkpoint; a line with the last checkpoint's number, the answer, the front block and the first byte of block 1, all after it.
-fn stride(d: Device, array: &mut [u8], map: &[u16], hold: &[u8]) -> Device
-    requires { ⌜ 4224 < length (now array) ⌝ }
-{
-    let r = d.checkpoint(array, map, hold);
-    let t = r.device;
-    let s = t.state;
-    let a = r.answer;
-    let answer = answers::number(a);
-    line(s.checkpoint, answer, s.front, array[BLOCK_1]);
-    t
-}
-
-/// Nine strides: the three checkpoints for which block 0 has room beside the format's, and the next.
-fn strides(device: Device, array: &mut [u8], map: &[u16], hold: &[u8])
-    requires { ⌜ 4224 < length (now array) ⌝ }
-{
-    io::write_all(
-        1,
-        b"after each stride: last checkpoint, answer, front block, first byte of block 1\n",
-    );
-    let mut d = device;
-    let mut turns: u8 = 0;
-    while turns < 9 {
-        d = stride(d, array, map, hold);
-        turns += 1;
-    }
 }
 
 /// Case l: the 41st page goes, the 42nd answers 10; the change is committed and recovered.
@@ -131,12 +183,20 @@ fn case_l(planes: u16) {
     let mut array = [0u8; 135168];
     let mut map = [0u16; 16];
     let mut hold = [0u8; State::HOLD];
-    let d = formatted(&mut array, &mut map, &hold, g);
-    let e = written(d, &mut array, &map, &mut hold);
+    let d = formatted(&mut array, &mut map, &mut hold, g);
+    let e = written(d, &mut array, &mut map, &mut hold, g);
     kept(e, &mut array, &mut map, &hold, g);
 }
 
-/// Case m: with L = 16 and P = 8 the fifth checkpoint in all erases block 1 first. A byte of that block is made 0 before it, for the erase to be seen.
+/// Makes the first byte of block 1 zero, for an erase to be seen.
+fn mark(array: &mut [u8])
+    requires { ⌜ 4224 < length (now array) ⌝ }
+{
+    array[BLOCK_1] = 0;
+}
+
+/// Case m: with L = 16 and P = 8 the fifth checkpoint in all erases block 1 first. Nine strides: the three checkpoints for which block 0 has
+/// room beside the format's, and the next.
 fn case_m() {
     io::write_all(1, b"case m\n");
     let g = Geometry {
@@ -147,10 +207,22 @@ fn case_m() {
     };
     let mut array = [0u8; 33792];
     let mut map = [0u16; 16];
-    let hold = [0u8; State::HOLD];
-    let d = formatted(&mut array, &mut map, &hold, g);
-    array[BLOCK_1] = 0;
-    strides(d, &mut array, &map, &hold);
+    let mut hold = [0u8; State::HOLD];
+    let d = formatted(&mut array, &mut map, &mut hold, g);
+    mark(&mut array);
+    io::write_all(
+        1,
+        b"after each stride: last checkpoint, answer, front block, first byte of block 1\n",
+    );
+    let r = repeat(
+        d,
+        &mut array,
+        &mut map,
+        &mut hold,
+        g,
+        Command::Checkpoint,
+        9,
+    );
 }
 
 fn main() {

@@ -5,7 +5,7 @@ use mathlib.Core.List.{List, [], _∷_, _++_, append-assoc}
 use Prim.Native.Nat.{ℕ, zero, suc, _+_, _-_, _*_, _/_, _%_, _≤_, _<_}
 use native.Mathlib.Omega.{arith}
 use lib.ListN.{length, take, set, getD, length-set}
-use lib.Seq.{take-all, take-suc-set}
+use lib.Seq.{take-all, take-suc-set, sets}
 use Rattle.model.specs.Bytes.{bytes16}
 use Rattle.model.specs.Geometry.{unmapped}
 use Rattle.model.specs.Checkpoint.{mapBytes, mapSpare, pageIs, mapsAt}
@@ -25,21 +25,20 @@ bytes-more map k (suc n) =
     let e : suc k + n ≡ k + suc n = omega arith in
     ap (λ (l : List ℕ). bytes16 (getD map k unmapped) ++ l) (bytes-more map (suc k) n ∙ ap (λ (i : ℕ). mapBytes map (suc k) n ++ bytes16 (getD map i unmapped)) e)
 
--- two bytes stored behind those of j entries
-pub stored-more : (map d : List ℕ) (k j x : ℕ) → j < 256 → length d ≡ 512 → x ≡ getD map (k + j) unmapped → take (2 * j) d ≡ mapBytes map k j
-    → take (2 * (j + 1)) (set (set d (2 * j) (x % 256)) (2 * j + 1) (x / 256)) ≡ mapBytes map k (j + 1)
-stored-more map d k j x h l e s =
+-- two bytes stored behind those of j entries, e after it
+pub stored-more : (map d e : List ℕ) (k j x : ℕ) → j < 256 → length d ≡ 512 → x ≡ getD map (k + j) unmapped → take (2 * j) d ≡ mapBytes map k j
+    → e ≡ sets d (2 * j) (bytes16 x) → take (2 * (j + 1)) e ≡ mapBytes map k (j + 1)
+stored-more map d e k j x h l f s g =
     let low : ℕ = x % 256 in
     let high : ℕ = x / 256 in
     let u : List ℕ = set d (2 * j) low in
     let lu : length u ≡ 512 = length-set d (2 * j) low ∙ l in
     let a : 2 * (j + 1) ≡ suc (suc (2 * j)) = omega arith in
-    let b : 2 * j + 1 ≡ suc (2 * j) = omega arith in
     let n : suc j ≡ j + 1 = omega arith in
     let t : take (suc (suc (2 * j))) (set u (suc (2 * j)) high) ≡ mapBytes map k j ++ (low ∷ []) ++ (high ∷ []) =
     take-suc-set u (suc (2 * j)) high (omega arith) ∙ ap (λ (v : List ℕ). v ++ (high ∷ [])) (take-suc-set d (2 * j) low (omega arith) ∙ ap (λ (v : List ℕ). v ++ (low ∷ [])) s) in
-    ap (λ (i : ℕ). take i (set u (2 * j + 1) high)) a ∙ ap (λ (i : ℕ). take (suc (suc (2 * j))) (set u i high)) b ∙ t
-    ∙ append-assoc (mapBytes map k j) (low ∷ []) (high ∷ []) ∙ ap (λ (y : ℕ). mapBytes map k j ++ bytes16 y) e ∙ sym (bytes-more map k j) ∙ ap (mapBytes map k) n
+    ap (λ (i : ℕ). take i e) a ∙ ap (take (suc (suc (2 * j)))) g ∙ t
+    ∙ append-assoc (mapBytes map k j) (low ∷ []) (high ∷ []) ∙ ap (λ (y : ℕ). mapBytes map k j ++ bytes16 y) f ∙ sym (bytes-more map k j) ∙ ap (mapBytes map k) n
 
 -- all 256 entries are stored
 pub stored-all : (map d : List ℕ) (k j : ℕ) → j ≡ 256 → length d ≡ 512 → take (2 * j) d ≡ mapBytes map k j → d ≡ mapBytes map k 256

@@ -37,8 +37,7 @@ pub fn map_data(map: &[u16], i: usize) -> [u8; Spare::DATA]
     let mut j: usize = 0;
     while j < Map::ENTRIES_A_PAGE {
         let x = entry_at(map, Map::ENTRIES_A_PAGE * i + j);
-        d[2 * j] = (x % 256) as u8;
-        d[2 * j + 1] = (x / 256) as u8;
+        page::put16(&mut d, 2 * j, x);
         j += 1;
     }
     d
@@ -83,10 +82,7 @@ pub fn zone_data(version: u32, z: Zones) -> [u8; Spare::DATA]
     let list = all.list;
     let n = all.n;
     let mut d = [0u8; Spare::DATA];
-    d[0] = (version % 256) as u8;
-    d[1] = (version / 256 % 256) as u8;
-    d[2] = (version / 65536 % 256) as u8;
-    d[3] = (version / 16777216) as u8;
+    page::put32(&mut d, 0, version);
     d[4] = z.pointer;
     d[5] = z.na;
     d[6] = z.nu;

@@ -8,7 +8,7 @@ use lib.ListN.{length, getD}
 use lib.Dec.{ltb}
 use Rattle.model.specs.Lists.{all, part}
 use Rattle.encoding.specs.Encoding.{dropCoded, dropsCoded, placesCoded}
-use Rattle.encoding.proofs.Taken.{part-more}
+use Rattle.page.proofs.Taken.{part-more}
 
 all-more : (p : ℕ → Bool) (xs : List ℕ) (x : ℕ) → all p (xs ++ (x ∷ [])) ≡ (all p xs && p x)
 unfolding all

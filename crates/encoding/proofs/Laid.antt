@@ -5,10 +5,12 @@ use mathlib.Core.List.{List, [], _∷_, _++_, map, append-assoc, append-nil}
 use Prim.Native.Nat.{ℕ, _+_, _≤_, _<_}
 use native.Mathlib.Numerals.{add-one}
 use native.Mathlib.Omega.{arith}
-use lib.ListN.{length, take, drop, set, getD, length-append, length-map, length-set, List·getD-map, take-append-drop, drop-of-length-le}
-use lib.Seq.{take-suc, take-all, set-split, take-at, drop-at, drop-drop, length-take-le}
+use native.Mathlib.Nat.{le-refl}
+use lib.ListN.{length, take, drop, set, getD, length-append, length-map, length-take, length-set, List·getD-map, take-append-drop, drop-of-length-le}
+use lib.Seq.{take-suc, take-all, set-split, take-at, drop-at, drop-drop, length-take-le, sets, length-sets, sets-eq}
 use mir.Val.{boolByte}
 use Rattle.model.specs.Lists.{splice}
+use Rattle.arrays.specs.Splice.{length-splice}
 use Rattle.encoding.specs.Encoding.{dropByte, dropBytes, Laid}
 
 -- nothing yet
@@ -67,6 +69,21 @@ laid-one {xs} {a} {n} {ys} {now} l k v e h = let o = l .same in laid-join l (lai
 -- the same, of a number that is known by an equation
 pub laid-by : {xs : List ℕ} {a n : ℕ} {ys now : List ℕ} → Laid xs a n ys now → (k v : ℕ) {w : ℕ} → k ≡ a + n → k < length xs → w ≡ v → Laid xs a (n + 1) (ys ++ (v ∷ [])) (set now k w)
 laid-by l k v e h f = rw f (laid-one l k v e h)
+
+-- numbers stored one after the other
+pub laid-sets : {xs now : List ℕ} {a : ℕ} (ys : List ℕ) → now ≡ sets xs a ys → a + length ys ≤ length xs → Laid xs a (length ys) ys now
+laid-sets {xs} {now} {a} ys e h = record { long = refl; fits = h; same = ap length e ∙ length-sets xs a ys; is = e ∙ unfold splice in (sets-eq ys xs a h ∙ append-assoc (take a xs) ys _) }
+
+-- numbers copied over a part of as many, zs after it
+pub laid-copied : (xs ys zs : List ℕ) (a : ℕ) → a + length ys ≤ length xs → zs ≡ take (length ys) ys ++ drop (length ys) (take (length ys) (drop a xs))
+    → Laid xs a (length ys) ys (take a xs ++ (zs ++ drop (length ys) (drop a xs)))
+laid-copied xs ys zs a h e = record { long = refl; fits = h; same = ap length is ∙ length-splice xs ys a (length ys) (omega arith); is = is }
+  where
+    all : zs ≡ ys
+    all = e ∙ rw (take-all (length ys) ys (le-refl (length ys)), drop-of-length-le (take (length ys) (drop a xs)) {i = length ys} (omega (arith, length-take (length ys) (drop a xs)))) (append-nil ys)
+
+    is : take a xs ++ (zs ++ drop (length ys) (drop a xs)) ≡ splice xs a (length ys) ys
+    is = unfold splice in (rw (all, drop-drop))
 
 -- the whole list
 all-of : (xs ys : List ℕ) (n : ℕ) → length xs ≤ 0 + n → splice xs 0 n ys ≡ ys

@@ -10,7 +10,7 @@ ghost use mathlib.Core.Path.{_≡_};
 ghost use Prim.Native.Nat.{_+_, _*_, _≤_, _<_};
 ghost use lib.ListN.{length};
 ghost use Rattle.model.specs.Lists.{part};
-ghost use Rattle.model.specs.Bytes.{bytes16, bytes32, words};
+ghost use Rattle.model.specs.Bytes.{bytes16, bytes32};
 ghost use Rattle.encoding.specs.Encoding.{zonesFrom, workFrom, planeFrom, dropsFrom, placeFrom, placesIn, stateFrom, workCoded, dropsCoded, placesCoded, encodes, each, geometryBytes, zoneBytes, kindOf, strideOf, planeByte, dropBytes, placeBytes, bytesOf, Laid};
 use model::Geometry;
 use model::Place;
@@ -87,23 +87,8 @@ fn load_bytes(from: &[u8], at: usize, list: &mut [u8])
     requires { ⌜ at + length (now list) ≤ length (now from) ⌝ }
     ensures { λ _. ⌜ now (list .exit) ≡ part at (length (now (list .entry))) (now (from .entry)) ⌝ }
 {
-    let mut i: usize = 0;
-    while i < list.len() {
-        list[i] = from[at + i];
-        i += 1;
-    }
-}
-
-/// Fills the list with the numbers of 2 bytes from `at` on.
-fn load_halves(from: &[u8], at: usize, list: &mut [u16])
-    requires { ⌜ at + 2 * length (now list) ≤ length (now from) ⌝ }
-    ensures { λ _. ⌜ now (list .exit) ≡ words (part at (2 * length (now (list .entry))) (now (from .entry))) ⌝ }
-{
-    let mut i: usize = 0;
-    while i < list.len() {
-        list[i] = page::word16(from, at + 2 * i);
-        i += 1;
-    }
+    let end = at + list.len();
+    let n = bytes::copy(&from[at..end], list);
 }
 
 /// Fills the list with the drops from `at` on.
@@ -176,9 +161,9 @@ fn load_place(from: &[u8], i: usize) -> Place
 {
     let at = 281 + 325 * i;
     let mut lpns = [0u16; Place::PAGES];
-    load_halves(from, at + 5, &mut lpns);
+    page::words16(from, at + 5, &mut lpns);
     let mut ppns = [0u16; Place::PAGES];
-    load_halves(from, at + 133, &mut ppns);
+    page::words16(from, at + 133, &mut ppns);
     let mut drops = [false; Place::PAGES];
     load_drops(from, at + 261, &mut drops);
     Place {
@@ -240,8 +225,7 @@ fn put_half(to: &mut [u8], at: usize, x: u16)
     requires { ⌜ at + 2 ≤ length (now to) ⌝ }
     ensures { λ _. ⌜ Laid (now (to .entry)) at 2 (bytes16 x) (now (to .exit)) ⌝ }
 {
-    to[at] = (x % 256) as u8;
-    to[at + 1] = (x / 256) as u8;
+    page::put16(to, at, x);
 }
 
 /// Puts a number of 4 bytes at a place.
@@ -249,10 +233,7 @@ fn put_word(to: &mut [u8], at: usize, x: u32)
     requires { ⌜ at + 4 ≤ length (now to) ⌝ }
     ensures { λ _. ⌜ Laid (now (to .entry)) at 4 (bytes32 x) (now (to .exit)) ⌝ }
 {
-    to[at] = (x % 256) as u8;
-    to[at + 1] = (x / 256 % 256) as u8;
-    to[at + 2] = (x / 65536 % 256) as u8;
-    to[at + 3] = (x / 16777216) as u8;
+    page::put32(to, at, x);
 }
 
 /// Puts bytes from `at` on.
@@ -260,11 +241,8 @@ fn put_bytes(to: &mut [u8], at: usize, list: &[u8])
     requires { ⌜ at + length (now list) ≤ length (now to) ⌝ }
     ensures { λ _. ⌜ Laid (now (to .entry)) at (length (now (list .entry))) (now (list .entry)) (now (to .exit)) ⌝ }
 {
-    let mut i: usize = 0;
-    while i < list.len() {
-        to[at + i] = list[i];
-        i += 1;
-    }
+    let end = at + list.len();
+    let n = bytes::copy(list, &mut to[at..end]);
 }
 
 /// Puts numbers of 2 bytes from `at` on.

@@ -3,10 +3,11 @@ use mathlib.Core.Path.{_≡_, refl, ap, sym, _∙_}
 use mathlib.Core.List.{List, [], _∷_, _++_, append-assoc, append-nil}
 use Prim.Native.Nat.{ℕ, zero, suc, _+_, _-_, _*_, _≤_, _<_}
 use native.Mathlib.Omega.{arith}
-use lib.ListN.{length, take, drop, set, getD, replicate, length-append, length-replicate, replicate-append-replicate}
-use lib.Seq.{take-suc, take-all, take-suc-set, take-at, drop-at, length-take-le}
-use Rattle.model.specs.Bytes.{le16, words}
+use lib.ListN.{length, take, drop, replicate, length-append, length-replicate, replicate-append-replicate}
+use lib.Seq.{take-at, drop-at}
+use Rattle.model.specs.Bytes.{words}
 use Rattle.model.specs.Page.{pageAt, dataAt}
+use Rattle.model.specs.Lists.{part}
 use Rattle.model.specs.Checkpoint.{loadMap}
 use Rattle.arrays.specs.Pages.{PageFits, length-data}
 
@@ -24,30 +25,10 @@ length-words n [] h = omega arith
 length-words n (x ∷ []) h = absurd (omega arith)
 length-words n (x ∷ y ∷ a) h = let e = length-words (n - 1) a (omega arith) in omega arith
 
--- one more
-words-more : (p : List ℕ) (i : ℕ) → 2 * i + 2 ≤ length p → words (take (2 * (i + 1)) p) ≡ words (take (2 * i) p) ++ (le16 p (2 * i) ∷ [])
-unfolding words
-words-more p i h =
-    let n : 2 * (i + 1) ≡ suc (suc (2 * i)) = omega arith in
-    let s : suc (2 * i) ≡ 2 * i + 1 = omega arith in
-    let x : ℕ = getD p (2 * i) 0 in
-    let t : take (suc (suc (2 * i))) p ≡ take (2 * i) p ++ (x ∷ getD p (2 * i + 1) 0 ∷ []) =
-    take-suc p (suc (2 * i)) 0 (omega arith) ∙ ap (λ (l : List ℕ). l ++ (getD p (suc (2 * i)) 0 ∷ [])) (take-suc p (2 * i) 0 (omega arith))
-    ∙ append-assoc (take (2 * i) p) (x ∷ []) (getD p (suc (2 * i)) 0 ∷ []) ∙ ap (λ (j : ℕ). take (2 * i) p ++ (x ∷ getD p j 0 ∷ [])) s in
-    ap (λ (j : ℕ). words (take j p)) n ∙ ap words t ∙ words-append i (take (2 * i) p) (x ∷ getD p (2 * i + 1) 0 ∷ []) (length-take-le (2 * i) p (omega arith))
-
--- ---- a map page: p is the page, l what its entries are stored in
-pub read-more : (p l : List ℕ) (i x : ℕ) → i < 256 → length p ≡ 528 → length l ≡ 256 → x ≡ le16 p (2 * i) → take i l ≡ words (take (2 * i) p)
-    → take (i + 1) (set l i x) ≡ words (take (2 * (i + 1)) p)
-read-more p l i x h lp ll e t =
-    let s : i + 1 ≡ suc i = omega arith in
-    ap (λ (j : ℕ). take j (set l i x)) s ∙ take-suc-set l i x (omega arith) ∙ rw (t, e) (sym (words-more p i (omega arith)))
-
-pub read-all : (xs l p : List ℕ) (k i : ℕ) → i ≡ 256 → p ≡ pageAt xs k → length l ≡ 256 → take i l ≡ words (take (2 * i) p) → l ≡ words (dataAt xs k)
-unfolding dataAt
-read-all xs l p k i h e ll t =
-    let d : 2 * i ≡ 512 = omega arith in
-    sym (take-all i l (omega arith)) ∙ t ∙ ap (λ (j : ℕ). words (take j p)) d ∙ ap (λ (q : List ℕ). words (take 512 q)) e
+-- the entries of map page k, read from the page p
+pub page-read : (xs p l : List ℕ) (k n : ℕ) → n ≡ 256 → p ≡ pageAt xs k → l ≡ words (part 0 (2 * n) p) → l ≡ words (dataAt xs k)
+unfolding dataAt part
+page-read xs p l k n h e f = f ∙ rw (h, e)
 
 -- ---- map pages, from page k of xs on
 map-more : (xs : List ℕ) (k i : ℕ) → loadMap xs k (suc i) ≡ loadMap xs k i ++ words (dataAt xs (k + i))

@@ -23,12 +23,7 @@ fn load_page(array: &[u8], k: usize, to: &mut [u16])
     requires { ⌜ (k * 528 + 528 ≤ length (now array)) × (length (now to) ≡ 256) ⌝ }
     ensures { λ _. ⌜ now (to .exit) ≡ words (dataAt (now (array .entry)) k) ⌝ }
 {
-    let page = flash::page_of(array, k);
-    let mut i: usize = 0;
-    while i < Map::ENTRIES_A_PAGE {
-        to[i] = page::word16(page, 2 * i);
-        i += 1;
-    }
+    page::words16(flash::page_of(array, k), 0, to);
 }
 
 /// The entries of the m map pages from page k on.

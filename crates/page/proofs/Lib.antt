@@ -1,3 +1,5 @@
 pub mod Words
 pub mod Storing
 pub mod Difference
+pub mod Taken
+pub mod Filled

@@ -1,7 +1,7 @@
 -- What the stores of `put_spare` leave, and those of `program`, one after the other: the data, the spare area, Zeros. Assumes nothing.
-use mathlib.Core.Path.{_≡_, refl, ap, _∙_}
+use mathlib.Core.Path.{_≡_, refl, sym, ap, _∙_}
 use mathlib.Core.List.{List, [], _∷_, _++_, append-assoc, append-nil}
-use Prim.Native.Nat.{ℕ, _+_, _*_, _/_, _%_, _≤_, _<_}
+use Prim.Native.Nat.{ℕ, suc, _+_, _*_, _/_, _%_, _≤_, _<_}
 use native.Mathlib.Omega.{arith}
 use lib.ListN.{length, take, drop, length-drop, length-append, drop-of-length-le}
 use lib.Seq.{take-all, take-at, drop-append-add, sets, sets-eq}
@@ -17,6 +17,14 @@ halves l c h =
     let e : (x % 256 ≡ l % 256) × (x / 256 % 256 ≡ l / 256) × (x / 65536 % 256 ≡ c % 256) × (x / 16777216 ≡ c / 256) =
     (omega arith, omega arith, omega arith, omega arith) in
     rw (e .0, e .1, e .2, e .3)
+
+-- the four bytes of a number are those of its halves, which are stored one after the other: p₁ and p₂ after each of them
+pub two-halves : (x at : ℕ) (p p₁ p₂ : List ℕ) → p₁ ≡ sets p at (bytes16 (x % 65536)) → p₂ ≡ sets p₁ (at + 2) (bytes16 (x / 65536)) → p₂ ≡ sets p at (bytes32 x)
+two-halves x at p p₁ p₂ e₁ e₂ =
+    let e : x % 65536 + 65536 * (x / 65536) ≡ x = omega arith in
+    let h : bytes16 (x % 65536) ++ bytes16 (x / 65536) ≡ bytes32 x = rw e at (sym (halves (x % 65536) (x / 65536) (omega arith))) in
+    let n : at + 2 ≡ suc (suc at) = omega arith in
+    e₂ ∙ rw (n, e₁) (ap (sets p at) h)
 
 first-word : (l c i : ℕ) → l < 65536 → c < 65536 → bytes64 (l + 65536 * c + 4294967296 * i) ≡ bytes16 l ++ (bytes16 c ++ bytes32 i)
 first-word l c i hl hc =

@@ -2,11 +2,11 @@
 // Every function takes the part of the lent array that it speaks of; what it requires is the part's length.
 ghost use mathlib.Core.Path.{_≡_};
 ghost use mathlib.Core.Bool.{false};
-ghost use Prim.Native.Nat.{_+_, _≤_, _<_};
+ghost use Prim.Native.Nat.{_+_, _*_, _≤_, _<_};
 ghost use lib.ListN.{length, take, replicate};
 ghost use lib.Seq.{sets};
 ghost use Rattle.model.specs.Lists.{part};
-ghost use Rattle.model.specs.Bytes.{zeroBits, allFF, le16, le32, bytes16, bytes32};
+ghost use Rattle.model.specs.Bytes.{zeroBits, allFF, le16, le32, bytes16, bytes32, words};
 ghost use Rattle.model.specs.Page.{classOf, classNumber, isWhole, isTorn, spareOf, spareBytes, pageBytes};
 ghost use Rattle.page.specs.Words.{le64, bytes64};
 use model::Class;
@@ -45,6 +45,18 @@ pub fn word64(page: &[u8], at: usize) -> u64
     let low = word32(page, at) as u64;
     let high = word32(page, at + 4) as u64;
     low + 4294967296 * high
+}
+
+/// Fills the numbers with those of 2 bytes from a place on.
+pub fn words16(page: &[u8], at: usize, numbers: &mut [u16])
+    requires { ⌜ at + 2 * length (now numbers) ≤ length (now page) ⌝ }
+    ensures { λ _. ⌜ now (numbers .exit) ≡ words (part at (2 * length (now (numbers .entry))) (now (page .entry))) ⌝ }
+{
+    let mut i: usize = 0;
+    while i < numbers.len() {
+        numbers[i] = word16(page, at + 2 * i);
+        i += 1;
+    }
 }
 
 /// The zero bits of the spare area before Zeros, offsets 512 to 525, in three words: LPN, TxCnt and TxID; TxVer; Kind and Reserved.
@@ -162,7 +174,7 @@ pub fn is_torn(c: Class) -> bool
 }
 
 /// Stores a number of 2 bytes at a place.
-fn put16(page: &mut [u8], at: usize, x: u16)
+pub fn put16(page: &mut [u8], at: usize, x: u16)
     requires { ⌜ at + 2 ≤ length (now page) ⌝ }
     ensures { λ _. ⌜ now (page .exit) ≡ sets (now (page .entry)) at (bytes16 x) ⌝ }
 {
@@ -171,14 +183,12 @@ fn put16(page: &mut [u8], at: usize, x: u16)
 }
 
 /// Stores a number of 4 bytes at a place.
-fn put32(page: &mut [u8], at: usize, x: u32)
+pub fn put32(page: &mut [u8], at: usize, x: u32)
     requires { ⌜ at + 4 ≤ length (now page) ⌝ }
     ensures { λ _. ⌜ now (page .exit) ≡ sets (now (page .entry)) at (bytes32 x) ⌝ }
 {
-    page[at] = (x % 256) as u8;
-    page[at + 1] = (x / 256 % 256) as u8;
-    page[at + 2] = (x / 65536 % 256) as u8;
-    page[at + 3] = (x / 16777216) as u8;
+    put16(page, at, (x % 65536) as u16);
+    put16(page, at + 2, (x / 65536) as u16);
 }
 
 /// Stores a number of 8 bytes at a place.

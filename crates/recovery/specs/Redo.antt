@@ -17,6 +17,8 @@ use Rattle.sorting.specs.Sort.{keyAt, Pages}
 use Rattle.scan.specs.Taken.{Blocks, listed, entryIn, entriesIn}
 use Rattle.scan.specs.Notes.{notesOf}
 use Rattle.scan.specs.Judged.{changesOf}
+use Rattle.recovery.specs.declared.By.{By}
+use Rattle.recovery.specs.declared.By.the-variants.{Run, Own}
 
 -- a map, and for each logical page the best version so far
 abbrev pub best : List ℕ → List ℕ → Best
@@ -30,6 +32,11 @@ runOf xs id (k ∷ ks) = cond (eqb (keyAt xs 516 k) id) (suc (runOf xs id ks)) 0
 -- the version of a run: of its page whose TxCnt is their number, or 0
 unfoldable pub runVersion : List ℕ → List ℕ → ℕ
 runVersion xs run = top (those (λ (e : Entry). eqb (e .cnt) (length run)) (entriesIn xs run))
+
+-- the version that a page is entered with: that of its run, or its own
+abbrev pub rankBy : By → Entry → ℕ
+rankBy (Run v) e = v
+rankBy Own e = e .ver
 
 -- pages of changes entered with the versions of their runs, then lone pages with their own
 abbrev pub allEntered : List ℕ → List ℕ → List ℕ → Best → Best

@@ -11,13 +11,19 @@ ghost use Rattle.ranks.specs.Best.{rankOf};
 ghost use Rattle.sorting.specs.Sort.{keyAt, Pages};
 ghost use Rattle.scan.specs.Taken.{listed, entryIn, entriesIn};
 ghost use Rattle.scan.specs.Notes.{noted};
-ghost use Rattle.recovery.specs.Redo.{best, allEntered, runOf, runVersion, Enterable, Runs, Ready};
+ghost use Rattle.recovery.specs.Redo.{rankBy, best, allEntered, runOf, runVersion, Enterable, Runs, Ready};
 use model::Geometry;
 use model::Map;
 use model::Spare;
 
 /// A best version for each logical page.
 const LOGICAL: usize = Geometry::MAX_LOGICAL as usize;
+
+/// With which version pages are entered: that of their run, or each with its own.
+enum By {
+    Run(u32),
+    Own,
+}
 
 /// Enters page k with this version, unless a better one was entered for its logical page.
 fn enter(map: &mut [u16], bests: &mut [u32], array: &[u8], k: u16, v: u32)
@@ -33,28 +39,26 @@ fn enter(map: &mut [u16], bests: &mut [u32], array: &[u8], k: u16, v: u32)
     map[l] = Map::leads(page[Spare::KIND] == Spare::DROP_KIND, k);
 }
 
-/// Enters the pages of a run with its version.
-fn enter_run(map: &mut [u16], bests: &mut [u32], array: &[u8], run: &[u16], v: u32)
-    requires { ⌜ Enterable (now array) (now run) (now map) (now bests) ⌝ }
-    ensures { λ _. ⌜ best (now (map .exit)) (now (bests .exit)) ≡ bestOf (λ (e : Entry). v) (entriesIn (now (array .entry)) (now (run .entry))) (best (now (map .entry)) (now (bests .entry))) ⌝ }
+/// The version that page k is entered with.
+fn version_of(array: &[u8], k: u16, by: By) -> u32
+    requires { ⌜ k * 528 + 528 ≤ length (now array) ⌝ }
+    ensures { λ r. ⌜ r ≡ rankBy by (entryIn (now (array .entry)) k) ⌝ }
 {
-    let mut i: usize = 0;
-    while i < run.len() {
-        enter(map, bests, array, run[i], v);
-        i += 1;
+    match by {
+        By::Run(v) => v,
+        By::Own => page::word32(flash::page_of(array, sorting::wide16(k)), Spare::VER),
     }
 }
 
-/// Enters lone pages, each with its own version.
-fn enter_lone(map: &mut [u16], bests: &mut [u32], array: &[u8], lone: &[u16])
-    requires { ⌜ Enterable (now array) (now lone) (now map) (now bests) ⌝ }
-    ensures { λ _. ⌜ best (now (map .exit)) (now (bests .exit)) ≡ bestOf (λ (e : Entry). e .ver) (entriesIn (now (array .entry)) (now (lone .entry))) (best (now (map .entry)) (now (bests .entry))) ⌝ }
+/// Enters the pages of a list: those of a run with its version, lone ones each with its own.
+fn enter_pages(map: &mut [u16], bests: &mut [u32], array: &[u8], order: &[u16], by: By)
+    requires { ⌜ Enterable (now array) (now order) (now map) (now bests) ⌝ }
+    ensures { λ _. ⌜ best (now (map .exit)) (now (bests .exit)) ≡ bestOf (rankBy by) (entriesIn (now (array .entry)) (now (order .entry))) (best (now (map .entry)) (now (bests .entry))) ⌝ }
 {
     let mut i: usize = 0;
-    while i < lone.len() {
-        let k = lone[i];
-        let v = page::word32(flash::page_of(array, sorting::wide16(k)), Spare::VER);
-        enter(map, bests, array, k, v);
+    while i < order.len() {
+        let k = order[i];
+        enter(map, bests, array, k, version_of(array, k, by));
         i += 1;
     }
 }
@@ -91,7 +95,7 @@ fn run_version(array: &[u8], run: &[u16]) -> u32
     let mut v: u32 = 0;
     let mut i: usize = 0;
     while i < run.len() {
-        let page = flash::page_of(array, sorting::wide16(run[i]));
+        let page = scan::listed_page(array, run, i);
         i += 1;
         if sorting::wide16(page::word16(page, Spare::CNT)) != run.len() {
             continue;
@@ -110,7 +114,7 @@ fn enter_runs(map: &mut [u16], bests: &mut [u32], array: &[u8], order: &[u16])
     while i < order.len() {
         let j = run_end(array, order, i);
         let v = run_version(array, &order[i..j]);
-        enter_run(map, bests, array, &order[i..j], v);
+        enter_pages(map, bests, array, &order[i..j], By::Run(v));
         i = j;
     }
 }
@@ -133,7 +137,7 @@ fn enter_all(
     enter_runs(map, bests, array, changes);
     scan::list(bs, pages, other);
     let n = scan::pick(other, notes, scan::LONE, scan::LONE);
-    enter_lone(map, bests, array, &other[..n]);
+    enter_pages(map, bests, array, &other[..n], By::Own);
 }
 
 /// Enters the committed transactions above the floor by rising version; the highest version of the scan is given, and its pages of changes

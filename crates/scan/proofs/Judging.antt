@@ -23,7 +23,7 @@ use Rattle.sorting.specs.Sort.{keyAt, sortedIn}
 use Rattle.sorting.proofs.Keys.{page-byte, in-those, in-sorted, turn-sorted, in-length, in-each}
 use Rattle.scan.specs.Taken.{listed, entryIn, entriesIn}
 use Rattle.scan.specs.Notes.{noted, metAll, start}
-use Rattle.scan.specs.Judged.{markAt, risesFrom, differ, changesOf, numberAt, numbersFrom, numbersDiffer, changesDiffer}
+use Rattle.scan.specs.Judged.{markAt, risesFrom, differ, changesOf, numberAt, numbersFrom, numbersDiffer, changesDiffer, Surveyed}
 use Rattle.scan.specs.declared.Seen.{Seen}
 use Rattle.scan.proofs.Listing.{wholes, entries-those, scan-listed}
 use Rattle.scan.proofs.Visiting.{met-good, met-fine, met-top, met-rising, noted-changes, noted-last, noted-marks}
@@ -288,6 +288,12 @@ unfolding changesDiffer
 judged planes logical xs p bs low m e =
     let ks = listed p bs in
     rw (e, scan-listed xs p bs) (both-ways _ _ (passes planes logical xs ks low) (passed-by planes logical xs ks low))
+
+-- the same of what a survey left
+pub surveyed : {planes logical p : ℕ} {xs bs order notes other : List ℕ} {m : Seen} → Surveyed planes logical xs p bs order notes other m → ((i : ℕ) → getD xs i 0 < 256)
+    → (m .good && ((m .rising || differ xs 2 3 520 false (listed p bs)) && changesDiffer planes xs (listed p bs))) ≡ pagesGood planes logical (scanIn xs p bs)
+surveyed {planes} {logical} {p} {xs} {bs} {order} {notes} {other} {m} s low =
+    judged planes logical xs p bs low m (s .met ∙ ap (λ (ks : List ℕ). metAll planes logical xs ks start) (s .list))
 
 -- a scan that refusal 4 passes: each page by itself was good, the highest version and how many pages of changes were met
 module _ (planes logical : ℕ) (xs : List ℕ) (p : ℕ) (bs : List ℕ) (h : pagesGood planes logical (scanIn xs p bs) ≡ true) where

@@ -1,5 +1,5 @@
 -- Refusal 4 as the code asks for it: page by page, then along pages sorted by TxVer and by TxID.
-use Prim.Native.Nat.{ℕ, _+_, _*_}
+use Prim.Native.Nat.{ℕ, _+_, _*_, _≤_}
 use mathlib.Core.Path.{_≡_}
 use mathlib.Core.Bool.{Bool, true, not, cond, _&&_, _||_}
 use mathlib.Core.List.{List, [], _∷_}
@@ -24,6 +24,12 @@ risesFrom xs at last (k ∷ ks) = cond (markAt xs k) (ltb last (keyAt xs at k) &
 -- the marks among the pages whose notes are from lo to hi differ in that number: it rises along them once they are sorted by it
 abbrev pub differ : List ℕ → ℕ → ℕ → ℕ → Bool → List ℕ → Bool
 differ xs lo hi at numbered ks = risesFrom xs at 0 (sortedIn numbered xs at (noted xs lo hi ks))
+
+-- the first n pages of the list after it are those whose notes are from lo to hi, sorted by the number at an offset
+pub record Front (xs ks : List ℕ) (lo hi n at : ℕ) (numbered : Bool) (after : List ℕ) : Type 0 where
+  pub is : take n after ≡ sortedIn numbered xs at (noted xs lo hi ks)
+  pub few : n ≤ length after
+  pub fits : Pages (length xs) (take n after)
 
 -- what was told of that, and those pages in front of the list
 pub record Sorting (xs : List ℕ) (lo hi at : ℕ) (numbered : Bool) (ks : List ℕ) (r : Bool) (after : List ℕ) : Type 0 where

@@ -1,8 +1,9 @@
-use Prim.Native.Nat.{_-_, _*_, _%_, _≤_}
 -- `checkpoint::map_data` meets its contract. The loop's invariant: the first bytes are those of `j` entries. Assumes nothing.
 use mathlib.Core.Path.{_≡_, refl}
+use Prim.Native.Nat.{_-_, _*_, _≤_}
 use native.Mathlib.Omega.{arith}
-use lib.ListN.{length, take, length-set}
+use lib.ListN.{length, take}
+use borrow.Author.Needs.{needs}
 use Rattle.model.specs.Checkpoint.{mapBytes}
 use Rattle.checkpoint.proofs.Maps.{stored-more, stored-all}
 use Rattle.checkpoint.proofs.map_data.Statement.{statement}
@@ -15,50 +16,39 @@ abbrev μ-loop : tie.MeasureT-loop
 μ-loop map i d₀ j₀ d j = 256 - j
 
 loop-holds : tie.Need-loop-holds Inv-loop μ-loop
-unfolding mapBytes
-loop-holds c = (omega arith, (refl, refl))
+loop-holds c = (omega arith, (refl, unfold mapBytes in refl))
 
 mul-entry-at : tie.Need-mul-entry-at Inv-loop μ-loop
-mul-entry-at c = omega arith
+mul-entry-at c = search needs
 
 add-entry-at : tie.Need-add-entry-at Inv-loop μ-loop
-add-entry-at c = omega arith
+add-entry-at c = search needs
 
 entry-at-requires : tie.Need-entry-at-requires Inv-loop μ-loop
-entry-at-requires c κs = tt
+entry-at-requires c κs = search needs
 
-cast-d : tie.Need-cast-d Inv-loop μ-loop
-cast-d c = omega arith
+slice-aggregate-put16 : tie.Need-slice-aggregate-put16 Inv-loop μ-loop
+slice-aggregate-put16 c = search needs
 
-mul-d : tie.Need-mul-d Inv-loop μ-loop
-mul-d c = omega arith
+mul-put16 : tie.Need-mul-put16 Inv-loop μ-loop
+mul-put16 c = search needs
 
-array-write-d : tie.Need-array-write-d Inv-loop μ-loop
-array-write-d c = omega arith
-
-cast-d-2 : tie.Need-cast-d-2 Inv-loop μ-loop
-cast-d-2 c = omega arith
-
-mul-d-2 : tie.Need-mul-d-2 Inv-loop μ-loop
-mul-d-2 c = omega arith
-
-add-d : tie.Need-add-d Inv-loop μ-loop
-add-d c = omega arith
-
-array-write-d-2 : tie.Need-array-write-d-2 Inv-loop μ-loop
-array-write-d-2 c = omega (arith, length-set (c .before .before .loop .d) (2 * c .before .before .loop .j) (c .entry-at .result % 256))
+put16-requires : tie.Need-put16-requires Inv-loop μ-loop
+put16-requires c κs = search needs
 
 add-j : tie.Need-add-j Inv-loop μ-loop
-add-j c = omega arith
+add-j c = search needs
 
 loop-less : tie.Need-loop-less Inv-loop μ-loop
-loop-less c = omega arith
+loop-less c = search needs
 
 loop-again : tie.Need-loop-again Inv-loop μ-loop
 loop-again c =
-    let l = c .before .before in
+    let put = c .before in
+    let got = put .before .before in
+    let l = got .before .before in
     let a = l .before .before .args in
-    (omega arith, (simp length-set (omega arith), stored-more (a .map .now) (l .loop .d) (256 * a .i) (l .loop .j) (c .entry-at .result) (omega arith) (l .loop .inv .1 .0) (c .entry-at .ensures) (l .loop .inv .1 .1)))
+    (omega arith, (search needs, stored-more (a .map .now) (l .loop .d) _ (256 * a .i) (l .loop .j) (got .entry-at .result) (omega arith) (l .loop .inv .1 .0) (got .entry-at .ensures) (l .loop .inv .1 .1) (put .put16 .ensures)))
 
 returns : tie.Need-returns Inv-loop μ-loop
 returns c =
@@ -76,13 +66,9 @@ map-data-spec =
     mul-entry-at
     add-entry-at
     entry-at-requires
-    cast-d
-    mul-d
-    array-write-d
-    cast-d-2
-    mul-d-2
-    add-d
-    array-write-d-2
+    slice-aggregate-put16
+    mul-put16
+    put16-requires
     add-j
     loop-less
     loop-again

@@ -1,7 +1,7 @@
+-- `checkpoint::same_spare` meets its contract: the fields one after the other. Assumes nothing.
 use mathlib.Core.Path.{_≡_}
 use lib.Dec.{eqb}
 use Rattle.model.specs.declared.Spare.{Spare}
--- `checkpoint::same_spare` meets its contract: the fields one after the other. Assumes nothing.
 use borrow.Author.Tests.{eq-eqb, ne-eqb}
 use Rattle.model.specs.Checkpoint.{sameSpare}
 use Rattle.checkpoint.proofs.same_spare.Statement.{statement}
@@ -31,12 +31,22 @@ returns-4 c = simp (eq-eqb _ _ (c .before .before .before .before .before .befor
 
 returns-5 : tie.Need-returns-5
 unfolding sameSpare
-returns-5 c = simp (eq-eqb _ _ (c .before .before .before .before .before .before .before .before .before .before .before .before .if1 .left), eq-eqb _ _ (c .before .before .before .before .before .before .before .before .before .if2 .left), eq-eqb _ _ (c .before .before .before .before .before .before .if3 .left), eq-eqb _ _ (c .before .before .before .if4 .left), ne-eqb _ _ (c .if5 .taken))
+returns-5 c =
+    let four = c .before .before .before in
+    let three = four .before .before .before in
+    let two = three .before .before .before in
+    let one = two .before .before .before in
+    simp (eq-eqb _ _ (one .if1 .left), eq-eqb _ _ (two .if2 .left), eq-eqb _ _ (three .if3 .left), eq-eqb _ _ (four .if4 .left), ne-eqb _ _ (c .if5 .taken))
 
 returns-6 : tie.Need-returns-6
 returns-6 c =
-    let a = c .before .before .before .before .before .before .before .before .before .before .before .before .before .before .before .before .before .args in
-    spares-last (a .s) (a .t) (c .before .before .before .before .before .before .before .before .before .before .before .before .before .before .if1 .left) (c .before .before .before .before .before .before .before .before .before .before .before .if2 .left) (c .before .before .before .before .before .before .before .before .if3 .left) (c .before .before .before .before .before .if4 .left) (c .before .before .if5 .left)
+    let four = c .before .before .before .before .before in
+    let three = four .before .before .before in
+    let two = three .before .before .before in
+    let one = two .before .before .before in
+    let start = one .before .before .before in
+    let a = start .args in
+    spares-last (a .s) (a .t) (one .if1 .left) (two .if2 .left) (three .if3 .left) (four .if4 .left) (c .before .before .if5 .left)
 
 pub same-spare-spec : {M : Type 1} → statement M
 same-spare-spec = tie.close (tie.spec returns returns-2 returns-3 returns-4 returns-5 returns-6)

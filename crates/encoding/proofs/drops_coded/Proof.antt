@@ -33,10 +33,7 @@ loop-less : tie.Need-loop-less Inv-loop μ-loop
 loop-less c = search needs
 
 loop-again : tie.Need-loop-again Inv-loop μ-loop
-loop-again c =
-    let l = c .before .before .loop in
-    let g = c .before .before .before .args in
-    (search needs, (search needs, drops-more (g .from .now) (g .at) (l .i) (l .coded) (omega arith) (l .inv .1 .1)))
+loop-again c = (search needs, (search needs, drops-more _ _ _ _ (omega arith) (c .before .before .loop .inv .1 .1)))
 
 returns : tie.Need-returns Inv-loop μ-loop
 returns c = let e : c .before .loop .i ≡ 64 = omega arith in rw (← e) (c .before .loop .inv .1 .1)

@@ -53,8 +53,19 @@ shared-slice-read-t18 c = search needs
 
 returns : tie.Need-returns
 returns c =
-    let w = c .before .before .before .before .before .before .before .load-work .ensures ∙ ap (workFrom _) (c .before .before .before .before .before .before .before .before .word165 .ensures) in
-    state-read (c .before .before .before .before .before .before .before .before .before .before .before .before .before .before .before .before .args .from .now) _ _ _ _ _ _ _ _ _ _ (c .before .before .before .before .before .before .before .before .before .before .before .before .before .before .word16 .ensures) (c .before .before .before .before .before .before .before .before .before .before .before .before .before .word162 .ensures) (c .before .before .before .before .before .before .before .before .before .before .before .before .word163 .ensures) (c .before .before .before .before .before .before .before .before .before .before .before .word164 .ensures) (c .before .before .before .before .before .before .before .before .before .before .load-zones .ensures) (c .before .before .before .word32 .ensures) (c .before .before .word322 .ensures) w (c .before .before .before .before .before .load-plane .ensures) (c .before .before .before .before .load-places .ensures)
+    let at-word32 = c .before .before .before in
+    let at-load-places = at-word32 .before in
+    let at-load-plane = at-load-places .before in
+    let at-load-work = at-load-plane .before .before in
+    let at-word165 = at-load-work .before in
+    let at-load-zones = at-word165 .before .before in
+    let at-word164 = at-load-zones .before in
+    let at-word163 = at-word164 .before in
+    let at-word162 = at-word163 .before in
+    let at-word16 = at-word162 .before in
+    let start = at-word16 .before .before in
+    let w = at-load-work .load-work .ensures ∙ ap (workFrom _) (at-word165 .word165 .ensures) in
+    state-read (start .args .from .now) _ _ _ _ _ _ _ _ _ _ (at-word16 .word16 .ensures) (at-word162 .word162 .ensures) (at-word163 .word163 .ensures) (at-word164 .word164 .ensures) (at-load-zones .load-zones .ensures) (at-word32 .word32 .ensures) (c .before .before .word322 .ensures) w (at-load-plane .load-plane .ensures) (at-load-places .load-places .ensures)
 
 pub load-spec : {M : Type 1} → statement M
 load-spec =

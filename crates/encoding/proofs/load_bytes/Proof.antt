@@ -1,64 +1,36 @@
--- `encoding::load_bytes` meets its contract. The loop's invariant: the first i bytes stand in the list. Assumes nothing.
-use mathlib.Core.Path.{_≡_, refl}
-use Prim.Native.Nat.{ℕ, _+_, _-_, _≤_}
+-- `encoding::load_bytes` meets its contract: `bytes::copy` fills the list (`bytes-copied`). Assumes nothing.
+use native.Mathlib.Nat.{add-sub-cancel-left}
 use native.Mathlib.Omega.{arith}
-use lib.ListN.{length, take, length-set}
 use borrow.Author.Needs.{needs}
-use Rattle.model.specs.Lists.{part}
-use Rattle.encoding.proofs.Taken.{bytes-more, filled}
+use Rattle.encoding.proofs.Taken.{bytes-copied}
 use Rattle.encoding.proofs.load_bytes.Statement.{statement}
 use Rattle.encoding.proofs.load_bytes.Tie as tie
 
-abbrev Inv-loop : tie.InvT-loop
-Inv-loop from at list₀ i₀ list i =
-    (i ≤ length list₀) × ((at + length list₀ ≤ length from) × ((length list ≡ length list₀) × (take i list ≡ part at i from)))
+add-end : tie.Need-add-end
+add-end c = search needs
 
-abbrev μ-loop : tie.MeasureT-loop
-μ-loop from at list₀ i₀ list i = length list₀ - i
+sub-copy : tie.Need-sub-copy
+sub-copy c = search needs
 
-loop-holds : tie.Need-loop-holds Inv-loop μ-loop
-unfolding part
-loop-holds c = (search needs, (search needs, (search needs, refl)))
+part-copy-start : tie.Need-part-copy-start
+part-copy-start c = search needs
 
-add-list : tie.Need-add-list Inv-loop μ-loop
-add-list c = search needs
+part-copy-end : tie.Need-part-copy-end
+part-copy-end c = search needs
 
-shared-slice-read-list : tie.Need-shared-slice-read-list Inv-loop μ-loop
-shared-slice-read-list c = search needs
+copy-requires : tie.Need-copy-requires
+copy-requires c κs = search needs
 
-slice-write-list : tie.Need-slice-write-list Inv-loop μ-loop
-slice-write-list c = search needs
-
-add-i : tie.Need-add-i Inv-loop μ-loop
-add-i c = search needs
-
-loop-less : tie.Need-loop-less Inv-loop μ-loop
-loop-less c = search needs
-
-loop-again : tie.Need-loop-again Inv-loop μ-loop
-loop-again c =
-    let l = c .before .before .loop in
-    let g = c .before .before .before .args in
-    (search needs, (search needs, (simp length-set (search needs), bytes-more (g .from .now) (l .list) (g .at) (l .i) (omega arith) (omega arith) (l .inv .1 .1 .1))))
-
-same-length : tie.Need-same-length Inv-loop μ-loop
+same-length : tie.Need-same-length
 same-length c = search needs
 
-returns : tie.Need-returns Inv-loop μ-loop
-returns c = filled (λ (j : ℕ). part (c .before .before .args .at) j (c .before .before .args .from .now)) (c .before .loop .list) (c .before .loop .i) _ (omega arith) (c .before .loop .inv .1 .1 .0) (c .before .loop .inv .1 .1 .1)
+returns : tie.Need-returns
+returns c =
+    let copied = c .before .before in
+    let a = copied .before .before .before .before .before .args in
+    bytes-copied (a .from .now) (a .list .now) _ (a .at) (omega arith) (rw add-sub-cancel-left at (copied .copy .ensures .1))
 
 pub load-bytes-spec : {M : Type 1} → statement M
 load-bytes-spec =
     tie.close
-    (tie.spec
-    Inv-loop
-    μ-loop
-    loop-holds
-    add-list
-    shared-slice-read-list
-    slice-write-list
-    add-i
-    loop-less
-    loop-again
-    same-length
-    returns)
+    (tie.spec add-end sub-copy part-copy-start part-copy-end copy-requires same-length returns)

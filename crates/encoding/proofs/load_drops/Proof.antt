@@ -1,25 +1,25 @@
 -- `encoding::load_drops` meets its contract. The loop's invariant: the first i drops stand in the list. Assumes nothing.
-use mathlib.Core.Path.{_≡_, refl}
+use mathlib.Core.Path.{refl}
 use Prim.Native.Nat.{ℕ, _+_, _-_, _≤_}
 use native.Mathlib.Omega.{arith}
-use lib.ListN.{length, take, length-set}
+use lib.ListN.{length}
 use borrow.Author.Needs.{needs}
 use Rattle.model.specs.Lists.{part}
 use Rattle.encoding.specs.Encoding.{dropsFrom}
-use Rattle.encoding.proofs.Taken.{drops-more, filled}
+use Rattle.page.proofs.Taken.{Filling, filling-none, filling-more, filling-all}
+use Rattle.encoding.proofs.Taken.{drops-more}
 use Rattle.encoding.proofs.load_drops.Statement.{statement}
 use Rattle.encoding.proofs.load_drops.Tie as tie
 
 abbrev Inv-loop : tie.InvT-loop
-Inv-loop from at list₀ i₀ list i =
-    (i ≤ length list₀) × ((at + length list₀ ≤ length from) × ((length list ≡ length list₀) × (take i list ≡ dropsFrom (part at i from))))
+Inv-loop from at list₀ i₀ list i = (at + length list₀ ≤ length from) × Filling (λ (j : ℕ). dropsFrom (part at j from)) (length list₀) i list
 
 abbrev μ-loop : tie.MeasureT-loop
 μ-loop from at list₀ i₀ list i = length list₀ - i
 
 loop-holds : tie.Need-loop-holds Inv-loop μ-loop
 unfolding part dropsFrom
-loop-holds c = (search needs, (search needs, (search needs, refl)))
+loop-holds c = (search needs, filling-none _ _ refl)
 
 add-list : tie.Need-add-list Inv-loop μ-loop
 add-list c = search needs
@@ -37,16 +37,13 @@ loop-less : tie.Need-loop-less Inv-loop μ-loop
 loop-less c = search needs
 
 loop-again : tie.Need-loop-again Inv-loop μ-loop
-loop-again c =
-    let l = c .before .before .loop in
-    let g = c .before .before .before .args in
-    (search needs, (search needs, (simp length-set (search needs), drops-more (g .from .now) (l .list) (g .at) (l .i) (omega arith) (omega arith) (l .inv .1 .1 .1))))
+loop-again c = (search needs, filling-more (c .before .before .loop .inv .1) (omega arith) _ (drops-more _ _ _ (omega arith)))
 
 same-length : tie.Need-same-length Inv-loop μ-loop
 same-length c = search needs
 
 returns : tie.Need-returns Inv-loop μ-loop
-returns c = filled (λ (j : ℕ). dropsFrom (part (c .before .before .args .at) j (c .before .before .args .from .now))) (c .before .loop .list) (c .before .loop .i) _ (omega arith) (c .before .loop .inv .1 .1 .0) (c .before .loop .inv .1 .1 .1)
+returns c = filling-all (c .before .loop .inv .1) (omega arith)
 
 pub load-drops-spec : {M : Type 1} → statement M
 load-drops-spec =

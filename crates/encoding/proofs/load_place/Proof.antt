@@ -10,23 +10,23 @@ mul-at c = search needs
 add-at : tie.Need-add-at
 add-at c = search needs
 
-add-load-halves : tie.Need-add-load-halves
-add-load-halves c = search needs
+add-words16 : tie.Need-add-words16
+add-words16 c = search needs
 
-slice-aggregate-load-halves : tie.Need-slice-aggregate-load-halves
-slice-aggregate-load-halves c = search needs
+slice-aggregate-words16 : tie.Need-slice-aggregate-words16
+slice-aggregate-words16 c = search needs
 
-load-halves-requires : tie.Need-load-halves-requires
-load-halves-requires c κs = search needs
+words16-requires : tie.Need-words16-requires
+words16-requires c κs = search needs
 
-add-load-halves-2 : tie.Need-add-load-halves-2
-add-load-halves-2 c = search needs
+add-words16-2 : tie.Need-add-words16-2
+add-words16-2 c = search needs
 
-slice-aggregate-load-halves-2 : tie.Need-slice-aggregate-load-halves-2
-slice-aggregate-load-halves-2 c = search needs
+slice-aggregate-words16-2 : tie.Need-slice-aggregate-words16-2
+slice-aggregate-words16-2 c = search needs
 
-load-halves-requires-2 : tie.Need-load-halves-requires-2
-load-halves-requires-2 c κs = search needs
+words16-requires-2 : tie.Need-words16-requires-2
+words16-requires-2 c κs = search needs
 
 add-load-drops : tie.Need-add-load-drops
 add-load-drops c = search needs
@@ -48,8 +48,12 @@ shared-slice-read-t17 c = search needs
 
 returns : tie.Need-returns
 returns c =
-    let g = c .before .before .before .before .before .before .before .before .before .before .before .before .args in
-    place-read (g .from .now) (g .i) _ _ _ _ (c .before .word32 .ensures) (c .before .before .before .before .before .before .before .before .before .load-halves .ensures) (c .before .before .before .before .before .before .load-halves2 .ensures) (c .before .before .before .load-drops .ensures)
+    let at-load-drops = c .before .before .before in
+    let at-words162 = at-load-drops .before .before .before in
+    let at-words16 = at-words162 .before .before .before in
+    let start = at-words16 .before .before .before in
+    let g = start .args in
+    place-read (g .from .now) (g .i) _ _ _ _ (c .before .word32 .ensures) (at-words16 .words16 .ensures) (at-words162 .words162 .ensures) (at-load-drops .load-drops .ensures)
 
 pub load-place-spec : {M : Type 1} → statement M
 load-place-spec =
@@ -57,12 +61,12 @@ load-place-spec =
     (tie.spec
     mul-at
     add-at
-    add-load-halves
-    slice-aggregate-load-halves
-    load-halves-requires
-    add-load-halves-2
-    slice-aggregate-load-halves-2
-    load-halves-requires-2
+    add-words16
+    slice-aggregate-words16
+    words16-requires
+    add-words16-2
+    slice-aggregate-words16-2
+    words16-requires-2
     add-load-drops
     slice-aggregate-load-drops
     load-drops-requires

@@ -35,7 +35,12 @@ shared-slice-read-t22 : tie.Need-shared-slice-read-t22
 shared-slice-read-t22 c = search needs
 
 returns : tie.Need-returns
-returns c = zones-read (c .before .before .before .before .before .before .before .before .before .before .before .before .before .before .args .from .now) _ _ _ (c .before .before .before .before .before .before .before .before .before .before .before .load-bytes .ensures) (c .before .before .before .before .before .before .before .before .load-bytes2 .ensures) (c .before .before .before .before .before .load-bytes3 .ensures)
+returns c =
+    let at-load-bytes3 = c .before .before .before .before .before in
+    let at-load-bytes2 = at-load-bytes3 .before .before .before in
+    let at-load-bytes = at-load-bytes2 .before .before .before in
+    let start = at-load-bytes .before .before .before in
+    zones-read (start .args .from .now) _ _ _ (at-load-bytes .load-bytes .ensures) (at-load-bytes2 .load-bytes2 .ensures) (at-load-bytes3 .load-bytes3 .ensures)
 
 pub load-zones-spec : {M : Type 1} → statement M
 load-zones-spec =

@@ -1,59 +1,36 @@
--- `encoding::put_bytes` meets its contract. The loop's invariant: the first i bytes are laid. Assumes nothing.
-use mathlib.Core.Path.{_≡_}
-use Prim.Native.Nat.{_+_, _-_, _≤_}
+-- `encoding::put_bytes` meets its contract: what `bytes::copy` stores is laid (`laid-copied`). Assumes nothing.
+use native.Mathlib.Nat.{add-sub-cancel-left}
 use native.Mathlib.Omega.{arith}
-use lib.ListN.{length, take, length-set}
 use borrow.Author.Needs.{needs}
-use Rattle.encoding.specs.Encoding.{Laid}
-use Rattle.encoding.proofs.Laid.{laid-none, laid-next, laid-end}
+use Rattle.encoding.proofs.Laid.{laid-copied}
 use Rattle.encoding.proofs.put_bytes.Statement.{statement}
 use Rattle.encoding.proofs.put_bytes.Tie as tie
 
-abbrev Inv-loop : tie.InvT-loop
-Inv-loop to₀ at list i₀ to i = (i ≤ length list) × ((at + length list ≤ length to₀) × ((length to ≡ length to₀) × Laid to₀ at i (take i list) to))
+add-end : tie.Need-add-end
+add-end c = search needs
 
-abbrev μ-loop : tie.MeasureT-loop
-μ-loop to₀ at list i₀ to i = length list - i
+sub-copy : tie.Need-sub-copy
+sub-copy c = search needs
 
-loop-holds : tie.Need-loop-holds Inv-loop μ-loop
-loop-holds c = (search needs, (search needs, (search needs, laid-none _ _ (omega arith))))
+part-copy-start : tie.Need-part-copy-start
+part-copy-start c = search needs
 
-shared-slice-read-to : tie.Need-shared-slice-read-to Inv-loop μ-loop
-shared-slice-read-to c = search needs
+part-copy-end : tie.Need-part-copy-end
+part-copy-end c = search needs
 
-add-to : tie.Need-add-to Inv-loop μ-loop
-add-to c = search needs
+copy-requires : tie.Need-copy-requires
+copy-requires c κs = search needs
 
-slice-write-to : tie.Need-slice-write-to Inv-loop μ-loop
-slice-write-to c = search needs
-
-add-i : tie.Need-add-i Inv-loop μ-loop
-add-i c = search needs
-
-loop-less : tie.Need-loop-less Inv-loop μ-loop
-loop-less c = search needs
-
-loop-again : tie.Need-loop-again Inv-loop μ-loop
-loop-again c = (search needs, (search needs, (simp length-set (search needs), laid-next (c .before .before .before .args .list .now) (c .before .before .loop .inv .1 .1 .1) (omega arith) (omega arith))))
-
-same-length : tie.Need-same-length Inv-loop μ-loop
+same-length : tie.Need-same-length
 same-length c = search needs
 
-returns : tie.Need-returns Inv-loop μ-loop
-returns c = laid-end (c .before .before .args .list .now) (c .before .loop .inv .1 .1 .1) (omega arith)
+returns : tie.Need-returns
+returns c =
+    let copied = c .before .before in
+    let a = copied .before .before .before .before .args in
+    rw add-sub-cancel-left (laid-copied (a .to .now) (a .list .now) _ (a .at) (omega arith) (rw add-sub-cancel-left at (copied .copy .ensures .1)))
 
 pub put-bytes-spec : {M : Type 1} → statement M
 put-bytes-spec =
     tie.close
-    (tie.spec
-    Inv-loop
-    μ-loop
-    loop-holds
-    shared-slice-read-to
-    add-to
-    slice-write-to
-    add-i
-    loop-less
-    loop-again
-    same-length
-    returns)
+    (tie.spec add-end sub-copy part-copy-start part-copy-end copy-requires same-length returns)

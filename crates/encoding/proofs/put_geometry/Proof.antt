@@ -24,8 +24,11 @@ same-length c = search needs
 returns : tie.Need-returns
 unfolding geometryBytes
 returns c =
-    let two = laid-join (c .before .before .before .before .before .before .before .before .before .before .before .before .before .before .put-half .ensures) (c .before .before .before .before .before .before .before .before .before .before .put-half2 .ensures) refl in
-    laid-join (laid-join two (c .before .before .before .before .before .before .put-half3 .ensures) refl) (c .before .before .put-half4 .ensures) refl
+    let at-put-half3 = c .before .before .before .before .before .before in
+    let at-put-half2 = at-put-half3 .before .before .before .before in
+    let at-put-half = at-put-half2 .before .before .before .before in
+    let two = laid-join (at-put-half .put-half .ensures) (at-put-half2 .put-half2 .ensures) refl in
+    laid-join (laid-join two (at-put-half3 .put-half3 .ensures) refl) (c .before .before .put-half4 .ensures) refl
 
 pub put-geometry-spec : {M : Type 1} → statement M
 put-geometry-spec =

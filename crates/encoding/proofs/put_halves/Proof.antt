@@ -1,5 +1,5 @@
 -- `encoding::put_halves` meets its contract. The loop's invariant: the first i numbers are laid. Assumes nothing.
-use mathlib.Core.Path.{_≡_, refl, _∙_}
+use mathlib.Core.Path.{refl}
 use Prim.Native.Nat.{_+_, _-_, _*_, _≤_}
 use native.Mathlib.Omega.{arith}
 use lib.ListN.{length, take}
@@ -12,13 +12,13 @@ use Rattle.encoding.proofs.put_halves.Tie as tie
 
 abbrev Inv-loop : tie.InvT-loop
 Inv-loop to₀ at list i₀ to i =
-    (i ≤ length list) × ((at + 2 * length list ≤ length to₀) × ((length to ≡ length to₀) × Laid to₀ at (2 * i) (each bytes16 (take i list)) to))
+    (i ≤ length list) × ((at + 2 * length list ≤ length to₀) × Laid to₀ at (2 * i) (each bytes16 (take i list)) to)
 
 abbrev μ-loop : tie.MeasureT-loop
 μ-loop to₀ at list i₀ to i = length list - i
 
 loop-holds : tie.Need-loop-holds Inv-loop μ-loop
-loop-holds c = (search needs, (search needs, (search needs, each-none bytes16 _ _ (c .before .before .args .list .now) (omega arith))))
+loop-holds c = (search needs, (search needs, each-none bytes16 _ _ (c .before .before .args .list .now) (omega arith)))
 
 mul-put-half : tie.Need-mul-put-half Inv-loop μ-loop
 mul-put-half c = search needs
@@ -42,17 +42,13 @@ loop-less : tie.Need-loop-less Inv-loop μ-loop
 loop-less c = search needs
 
 loop-again : tie.Need-loop-again Inv-loop μ-loop
-loop-again c =
-    let l = c .before .before .before .before .before .before .loop in
-    let g = c .before .before .before .before .before .before .before .before .before .args in
-    let d = c .before .before .put-half .ensures in
-    (search needs, (search needs, (d .same ∙ l .inv .1 .1 .0, each-next bytes16 2 (g .list .now) _ _ (l .inv .1 .1 .1) (omega arith) d)))
+loop-again c = (search needs, (search needs, each-next bytes16 2 _ _ _ (c .before .before .before .before .before .before .loop .inv .1 .1) (omega arith) (c .before .before .put-half .ensures)))
 
 same-length : tie.Need-same-length Inv-loop μ-loop
 same-length c = search needs
 
 returns : tie.Need-returns Inv-loop μ-loop
-returns c = each-end bytes16 2 _ (c .before .before .before .before .args .list .now) (c .before .loop .inv .1 .1 .1) (omega arith) refl
+returns c = each-end bytes16 2 _ (c .before .before .before .before .args .list .now) (c .before .loop .inv .1 .1) (omega arith) refl
 
 pub put-halves-spec : {M : Type 1} → statement M
 put-halves-spec =

@@ -36,30 +36,45 @@ add-put-halves-2 c = search needs
 
 put-halves-requires-2 : tie.Need-put-halves-requires-2
 put-halves-requires-2 c κs =
-    let l : length (c .before .before .before .before .before .before .before .before .before .before .before .before .before .before .before .before .args .t3 .ppns) ≡ 64 = search needs in
-    omega (arith, simp length-set at (c .before .before .before .before .before .before .put-halves .ensures .same), c .before .before .before .before .before .before .before .before .before .before .before .before .before .put-word .ensures .same)
+    let at-put-halves = c .before .before .before .before .before .before in
+    let at-put-word = at-put-halves .before .before .before .before .before .before .before in
+    let start = at-put-word .before .before .before in
+    let l : length (start .args .t3 .ppns) ≡ 64 = search needs in
+    omega (arith, simp length-set at (at-put-halves .put-halves .ensures .same), at-put-word .put-word .ensures .same)
 
 add-put-drops : tie.Need-add-put-drops
 add-put-drops c = search needs
 
 put-drops-requires : tie.Need-put-drops-requires
 put-drops-requires c κs =
-    let l : length (c .before .before .before .before .before .before .before .before .before .before .before .before .before .before .before .before .before .before .before .before .before .before .before .args .t3 .drops) ≡ 64 = search needs in
-    omega (arith, c .before .before .before .before .before .before .put-halves2 .ensures .same, simp length-set at (c .before .before .before .before .before .before .before .before .before .before .before .before .before .put-halves .ensures .same), c .before .before .before .before .before .before .before .before .before .before .before .before .before .before .before .before .before .before .before .before .put-word .ensures .same)
+    let at-put-halves2 = c .before .before .before .before .before .before in
+    let at-put-halves = at-put-halves2 .before .before .before .before .before .before .before in
+    let at-put-word = at-put-halves .before .before .before .before .before .before .before in
+    let start = at-put-word .before .before .before in
+    let l : length (start .args .t3 .drops) ≡ 64 = search needs in
+    omega (arith, at-put-halves2 .put-halves2 .ensures .same, simp length-set at (at-put-halves .put-halves .ensures .same), at-put-word .put-word .ensures .same)
 
 same-length : tie.Need-same-length
-same-length c = c .before .before .put-drops .ensures .same ∙ c .before .before .before .before .before .before .before .before .before .put-halves2 .ensures .same ∙ c .before .before .before .before .before .before .before .before .before .before .before .before .before .before .before .before .put-halves .ensures .same ∙ simp length-set (c .before .before .before .before .before .before .before .before .before .before .before .before .before .before .before .before .before .before .before .before .before .before .before .put-word .ensures .same)
+same-length c =
+    let at-put-halves2 = c .before .before .before .before .before .before .before .before .before in
+    let at-put-halves = at-put-halves2 .before .before .before .before .before .before .before in
+    let at-put-word = at-put-halves .before .before .before .before .before .before .before in
+    c .before .before .put-drops .ensures .same ∙ at-put-halves2 .put-halves2 .ensures .same ∙ at-put-halves .put-halves .ensures .same ∙ simp length-set (at-put-word .put-word .ensures .same)
 
 returns : tie.Need-returns
 unfolding placeBytes
 returns c =
-    let g = c .before .before .before .before .before .before .before .before .before .before .before .before .before .before .before .before .before .before .before .before .before .before .before .before .before .before .args in
+    let at-put-halves2 = c .before .before .before .before .before .before .before .before .before in
+    let at-put-halves = at-put-halves2 .before .before .before .before .before .before .before in
+    let at-put-word = at-put-halves .before .before .before .before .before .before .before in
+    let start = at-put-word .before .before .before in
+    let g = start .args in
     let k : length (g .t3 .lpns) ≡ 64 = search needs in
     let m : length (g .t3 .ppns) ≡ 64 = search needs in
     let d : length (g .t3 .drops) ≡ 64 = search needs in
-    let one = laid-one (c .before .before .before .before .before .before .before .before .before .before .before .before .before .before .before .before .before .before .before .before .before .before .before .put-word .ensures) _ (g .t3 .count) refl (omega arith) in
-    let two = laid-join one (laid-size 128 (c .before .before .before .before .before .before .before .before .before .before .before .before .before .before .before .before .put-halves .ensures) (omega arith)) refl in
-    let three = laid-join two (laid-size 128 (c .before .before .before .before .before .before .before .before .before .put-halves2 .ensures) (omega arith)) refl in
+    let one = laid-one (at-put-word .put-word .ensures) _ (g .t3 .count) refl (omega arith) in
+    let two = laid-join one (laid-size 128 (at-put-halves .put-halves .ensures) (omega arith)) refl in
+    let three = laid-join two (laid-size 128 (at-put-halves2 .put-halves2 .ensures) (omega arith)) refl in
     laid-join three (laid-size 64 (c .before .before .put-drops .ensures) d) refl
 
 pub put-place-spec : {M : Type 1} → statement M

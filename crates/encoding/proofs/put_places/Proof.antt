@@ -1,5 +1,5 @@
 -- `encoding::put_places` meets its contract. The loop's invariant: the first i places are laid. Assumes nothing.
-use mathlib.Core.Path.{_≡_, _∙_}
+use mathlib.Core.Path.{_≡_}
 use Prim.Native.Nat.{_-_, _*_, _≤_}
 use native.Mathlib.Omega.{arith}
 use lib.ListN.{length, take}
@@ -11,13 +11,13 @@ use Rattle.encoding.proofs.put_places.Tie as tie
 
 abbrev Inv-loop : tie.InvT-loop
 Inv-loop to₀ places i₀ to i =
-    (i ≤ 8) × ((length to₀ ≡ 2881) × ((length places ≡ 8) × ((length to ≡ 2881) × Laid to₀ 281 (325 * i) (each placeBytes (take i places)) to)))
+    (i ≤ 8) × ((length to₀ ≡ 2881) × ((length places ≡ 8) × Laid to₀ 281 (325 * i) (each placeBytes (take i places)) to))
 
 abbrev μ-loop : tie.MeasureT-loop
 μ-loop to₀ places i₀ to i = 8 - i
 
 loop-holds : tie.Need-loop-holds Inv-loop μ-loop
-loop-holds c = (search needs, (search needs, (search needs, (search needs, each-none placeBytes _ _ (c .before .args .t2) (omega arith)))))
+loop-holds c = (search needs, (search needs, (search needs, each-none placeBytes _ _ (c .before .args .t2) (omega arith))))
 
 mul-p : tie.Need-mul-p Inv-loop μ-loop
 mul-p c = search needs
@@ -35,16 +35,13 @@ loop-less : tie.Need-loop-less Inv-loop μ-loop
 loop-less c = search needs
 
 loop-again : tie.Need-loop-again Inv-loop μ-loop
-loop-again c =
-    let l = c .before .before .before .before .before .before .loop in
-    let d = c .before .before .put-place .ensures in
-    (search needs, (search needs, (search needs, (d .same ∙ l .inv .1 .1 .1 .0, each-next placeBytes 325 (c .before .before .before .before .before .before .before .before .args .t2) _ _ (l .inv .1 .1 .1 .1) (omega arith) d))))
+loop-again c = (search needs, (search needs, (search needs, each-next placeBytes 325 _ _ _ (c .before .before .before .before .before .before .loop .inv .1 .1 .1) (omega arith) (c .before .before .put-place .ensures))))
 
 same-length : tie.Need-same-length Inv-loop μ-loop
 same-length c = search needs
 
 returns : tie.Need-returns Inv-loop μ-loop
-returns c = each-end placeBytes 325 8 (c .before .before .before .args .t2) (c .before .loop .inv .1 .1 .1 .1) (omega arith) (c .before .loop .inv .1 .1 .0)
+returns c = each-end placeBytes 325 8 (c .before .before .before .args .t2) (c .before .loop .inv .1 .1 .1) (omega arith) (c .before .loop .inv .1 .1 .0)
 
 pub put-places-spec : {M : Type 1} → statement M
 put-places-spec =

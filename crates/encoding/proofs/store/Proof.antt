@@ -53,15 +53,24 @@ same-length c = omega (arith, simp length-set at (c .before .before .put-places 
 returns : tie.Need-returns
 unfolding bytesOf
 returns c =
-    let g = c .before .before .before .before .before .before .before .before .before .before .before .before .before .before .before .before .before .before .before .before .before .before .before .before .before .before .before .before .before .before .before .args in
+    let at-plane-byte = c .before .before .before .before .before in
+    let at-put-half = at-plane-byte .before .before .before in
+    let at-stride-of = at-put-half .before in
+    let at-kind-of = at-stride-of .before .before in
+    let at-put-word2 = at-kind-of .before .before .before in
+    let at-put-word = at-put-word2 .before .before .before .before in
+    let at-put-zones = at-put-word .before .before .before .before in
+    let at-put-geometry = at-put-zones .before .before .before .before .before in
+    let start = at-put-geometry .before .before .before .before in
+    let g = start .args in
     let s = g .s in
-    let h : length (g .to .now) ≡ 2881 = c .before .before .before .before .before .before .before .before .before .before .before .before .before .before .before .before .before .before .before .before .before .before .before .before .before .before .before .before .before .before .before .pre in
-    let one = laid-join (c .before .before .before .before .before .before .before .before .before .before .before .before .before .before .before .before .before .before .before .before .before .before .before .before .before .before .before .put-geometry .ensures) (c .before .before .before .before .before .before .before .before .before .before .before .before .before .before .before .before .before .before .before .before .before .before .put-zones .ensures) refl in
-    let two = laid-join (laid-join one (c .before .before .before .before .before .before .before .before .before .before .before .before .before .before .before .before .before .before .put-word .ensures) refl) (c .before .before .before .before .before .before .before .before .before .before .before .before .before .before .put-word2 .ensures) refl in
+    let h : length (g .to .now) ≡ 2881 = start .pre in
+    let one = laid-join (at-put-geometry .put-geometry .ensures) (at-put-zones .put-zones .ensures) refl in
+    let two = laid-join (laid-join one (at-put-word .put-word .ensures) refl) (at-put-word2 .put-word2 .ensures) refl in
     let three = laid-one (laid-one two 275 (s .front) refl (omega arith)) 276 (s .first) refl (omega arith) in
-    let four = laid-by three 277 (kindOf (s .work)) refl (omega arith) (c .before .before .before .before .before .before .before .before .before .before .before .kind-of .ensures) in
-    let five = laid-join four (rw (c .before .before .before .before .before .before .before .before .before .stride-of .ensures) at (c .before .before .before .before .before .before .before .before .put-half .ensures)) refl in
-    let six = laid-by five 280 (planeByte (s .last)) refl (omega arith) (c .before .before .before .before .before .plane-byte .ensures) in
+    let four = laid-by three 277 (kindOf (s .work)) refl (omega arith) (at-kind-of .kind-of .ensures) in
+    let five = laid-join four (rw (at-stride-of .stride-of .ensures) at (at-put-half .put-half .ensures)) refl in
+    let six = laid-by five 280 (planeByte (s .last)) refl (omega arith) (at-plane-byte .plane-byte .ensures) in
     laid-all (laid-join six (c .before .before .put-places .ensures) refl) h
 
 pub store-spec : {M : Type 1} → statement M

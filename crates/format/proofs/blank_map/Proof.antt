@@ -1,23 +1,20 @@
--- `format::blank_map` meets its contract. The loop's invariant: the first `i` entries are unmapped, the others as they were. Assumes nothing.
-use mathlib.Core.Path.{_≡_, refl, ap, _∙_}
-use mathlib.Core.List.{_++_, append-nil}
-use Prim.Native.Nat.{_≤_, _-_}
+-- `format::blank_map` meets its contract. The loop's invariant: the first `i` entries are unmapped, the others as they were (`Filled`). Assumes nothing.
+use Prim.Native.Nat.{_-_}
 use native.Mathlib.Omega.{arith}
-use native.Mathlib.Nat.{le-refl}
-use lib.ListN.{length, set, drop, replicate, length-set, drop-of-length-le}
+use lib.ListN.{length}
 use borrow.Author.Needs.{needs}
-use borrow.Author.Fill.{fill-more}
+use Rattle.page.proofs.Filled.{Filled, filled-none, filled-more, filled-all}
 use Rattle.format.proofs.blank_map.Statement.{statement}
 use Rattle.format.proofs.blank_map.Tie as tie
 
 abbrev Inv-loop : tie.InvT-loop
-Inv-loop map₀ i₀ map i = (i ≤ length map₀) × ((length map ≡ length map₀) × (map ≡ replicate i 65535 ++ drop i map₀))
+Inv-loop map₀ i₀ map i = Filled 65535 i map₀ map
 
 abbrev μ-loop : tie.MeasureT-loop
 μ-loop map₀ i₀ map i = length map₀ - i
 
 loop-holds : tie.Need-loop-holds Inv-loop μ-loop
-loop-holds c = (omega arith, (refl, refl))
+loop-holds c = filled-none 65535 _
 
 mul-map : tie.Need-mul-map Inv-loop μ-loop
 mul-map c = search needs
@@ -32,24 +29,13 @@ loop-less : tie.Need-loop-less Inv-loop μ-loop
 loop-less c = search needs
 
 loop-again : tie.Need-loop-again Inv-loop μ-loop
-loop-again c =
-    let at-loop = c .before in (
-      omega arith,
-      (
-        simp length-set (omega arith),
-        ap (λ l. set l (at-loop .loop .i) 65535) (at-loop .loop .inv .1 .1) ∙ fill-more (at-loop .loop .i) 65535 (at-loop .before .args .map .now) (omega arith),
-      ),
-    )
+loop-again c = filled-more (c .before .loop .inv) (omega arith)
 
 same-length : tie.Need-same-length Inv-loop μ-loop
 same-length c = search needs
 
 returns : tie.Need-returns Inv-loop μ-loop
-returns c =
-    let at-loop = c .before in
-    let d = at-loop .before .args .map .now in
-    let e : at-loop .loop .i ≡ length d = omega arith in
-    at-loop .loop .inv .1 .1 ∙ rw (e, drop-of-length-le d (le-refl (length d))) (append-nil _)
+returns c = filled-all (c .before .loop .inv) (omega arith)
 
 pub blank-map-spec : {M : Type 1} → statement M
 blank-map-spec =

@@ -26,8 +26,10 @@ same-length-2 c = search needs
 
 returns : tie.Need-returns
 returns c =
-    let s = c .before .before .before .before .before .before .before .before .before .before .before .before in
-    erases (s .args .g) (s .args .array .now) (s .args .map .now) _ _ _ (s .args .k) (s .pre .0) (s .pre .1) (c .before .before .before .before .before .before .before .erase-block .ensures) (c .before .before .before .blank-map .ensures) (c .under-way .ensures)
+    let at-blank-map = c .before .before .before in
+    let at-erase-block = at-blank-map .before .before .before .before in
+    let s = at-erase-block .before .before .before .before .before in
+    erases (s .args .g) (s .args .array .now) (s .args .map .now) _ _ _ (s .args .k) (s .pre .0) (s .pre .1) (at-erase-block .erase-block .ensures) (at-blank-map .blank-map .ensures) (c .under-way .ensures)
 
 pub erase-stride-spec : {M : Type 1} → statement M
 erase-stride-spec =

@@ -53,11 +53,13 @@ same-length-6 c = search needs
 
 returns-3 : tie.Need-returns-3
 returns-3 c =
-    let s = c .before .before .before .before .before .before .before .before .before .before .before .before .before .before in
-    let m = c .before .before .before .before .before .before .before .before .map-pages .ensures in
+    let at-last-stride = c .before .before .before .before in
+    let at-map-pages = at-last-stride .before .before .before .before in
+    let s = at-map-pages .before .before .before .before .before .before in
+    let m = at-map-pages .map-pages .ensures in
     let u = s .pre .upto in
     let e : s .args .k ≡ s .args .g .blocks + mapPages (s .args .g) = omega arith in
-    rw e (c .before .before .before .before .last-stride .ensures)
+    rw e (at-last-stride .last-stride .ensures)
 
 pub format-stride-spec : {M : Type 1} → statement M
 format-stride-spec =

@@ -34,8 +34,9 @@ slice-aggregate-program-at c = search needs
 
 program-at-requires : tie.Need-program-at-requires
 program-at-requires c κs =
-    let s = c .before .before .before .before .before .before .before .before .before .before .before .before in
-    let e = c .before .before .before .before .before .map-pages .ensures in
+    let at-map-pages = c .before .before .before .before .before in
+    let s = at-map-pages .before .before .before .before .before .before .before in
+    let e = at-map-pages .map-pages .ensures in
     (page-in (s .args .g) (s .args .array .now) (s .args .map .now) _ (s .pre) _ (omega arith), search needs)
 
 fresh-requires : tie.Need-fresh-requires
@@ -51,18 +52,27 @@ same-length : tie.Need-same-length
 same-length c = search needs
 
 same-length-2 : tie.Need-same-length-2
-same-length-2 c = let e = c .before .before .before .before .before .before .before .before .before .before .before .before .before .before .blank-map .ensures in simp (e, length-replicate)
+same-length-2 c =
+    let at-program-at = c .before .before .before .before .before in
+    let at-blank-map = at-program-at .before .before .before .before .before .before .before .before .before in
+    let e = at-blank-map .blank-map .ensures in simp (e, length-replicate)
 
 returns : tie.Need-returns
 returns c =
-    let s = c .before .before .before .before .before .before .before .before .before .before .before .before .before .before .before .before .before .before in
+    let at-program-at = c .before .before .before .before .before in
+    let at-zone-spare = at-program-at .before .before .before in
+    let at-zone-data = at-zone-spare .before in
+    let at-format-zones = at-zone-data .before in
+    let at-map-pages = at-format-zones .before in
+    let at-blank-map = at-map-pages .before .before .before in
+    let s = at-blank-map .before .before .before .before in
     ends (s .args .g) (s .args .array .now) (s .args .map .now) _ _ _ _ _ _ _ _ _ (s .pre)
-    (c .before .before .before .before .before .before .before .before .before .before .before .before .before .before .blank-map .ensures)
-    (c .before .before .before .before .before .before .before .before .before .before .before .map-pages .ensures)
-    (c .before .before .before .before .before .before .before .before .before .before .format-zones .ensures)
-    (c .before .before .before .before .before .before .before .before .before .zone-data .ensures)
-    (c .before .before .before .before .before .before .before .before .zone-spare .ensures)
-    (c .before .before .before .before .before .program-at .ensures)
+    (at-blank-map .blank-map .ensures)
+    (at-map-pages .map-pages .ensures)
+    (at-format-zones .format-zones .ensures)
+    (at-zone-data .zone-data .ensures)
+    (at-zone-spare .zone-spare .ensures)
+    (at-program-at .program-at .ensures)
     (c .before .before .fresh .ensures)
     (c .before .with-zones .ensures)
     (c .with-number .ensures)

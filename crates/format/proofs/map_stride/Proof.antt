@@ -23,12 +23,14 @@ slice-aggregate-program-at c = search needs
 
 program-at-requires : tie.Need-program-at-requires
 program-at-requires c κs =
-    let s = c .before .before .before .before .before .before .before .before .before .before .before in
+    let at-blank-map = c .before .before .before .before .before .before .before in
+    let s = at-blank-map .before .before .before .before in
     (page-in (s .args .g) (s .args .array .now) (s .args .map .now) (s .args .k) (s .pre .0) (s .args .i) (omega arith), search needs)
 
 under-way-requires : tie.Need-under-way-requires
 under-way-requires c κs =
-    let s = c .before .before .before .before .before .before .before .before .before .before .before .before .before .before in
+    let at-blank-map = c .before .before .before .before .before .before .before .before .before .before in
+    let s = at-blank-map .before .before .before .before in
     let h = geometry-in (s .args .g) (s .pre .0 .shape) in
     let b = h .blocks-most in
     let m = maps-few (s .args .g) h in
@@ -42,12 +44,16 @@ same-length-2 c = search needs
 
 returns : tie.Need-returns
 returns c =
-    let s = c .before .before .before .before .before .before .before .before .before .before .before .before .before .before .before in
+    let at-program-at = c .before .before .before in
+    let at-map-spare = at-program-at .before .before .before in
+    let at-map-data = at-map-spare .before in
+    let at-blank-map = at-map-data .before .before .before .before in
+    let s = at-blank-map .before .before .before .before in
     maps (s .args .g) (s .args .array .now) (s .args .map .now) _ _ _ (s .args .k) (s .args .i) (s .pre .0) (s .pre .1 .0) (s .pre .1 .1) _ _
-    (c .before .before .before .before .before .before .before .before .before .before .before .blank-map .ensures)
-    (c .before .before .before .before .before .before .before .map-data .ensures)
-    (c .before .before .before .before .before .before .map-spare .ensures)
-    (c .before .before .before .program-at .ensures)
+    (at-blank-map .blank-map .ensures)
+    (at-map-data .map-data .ensures)
+    (at-map-spare .map-spare .ensures)
+    (at-program-at .program-at .ensures)
     (c .under-way .ensures)
 
 pub map-stride-spec : {M : Type 1} → statement M

@@ -69,20 +69,28 @@ lists-ok-requires c κs = search needs
 
 returns-2 : tie.Need-returns-2
 returns-2 c =
-    let a = c .before .before .before .before .before .before .before .before .before .before .before .before .before .args in
-    let g = geometry-in (a .g) (c .before .before .before .before .before .before .before .before .before .before .before .before .before .pre .0) in
-    lists-fail (a .g) (a .z .now) (c .before .before .before .before .before .before .before .before .before .before .wide .result) (c .before .before .before .before .before .before .before .before .wide2 .result) (c .before .before .before .before .before .before .wide3 .result) _ (c .before .before .before .before .before .before .before .before .before .before .wide .ensures) (c .before .before .before .before .before .before .before .before .wide2 .ensures) (c .before .before .before .before .before .before .wide3 .ensures) refl (c .before .lists-ok .result) (omega arith) (c .before .lists-ok .ensures) (not-true _ (c .if2 .taken))
+    let at-wide3 = c .before .before .before .before .before .before in
+    let at-wide2 = at-wide3 .before .before in
+    let at-wide = at-wide2 .before .before in
+    let start = at-wide .before .before .before in
+    let a = start .args in
+    let g = geometry-in (a .g) (start .pre .0) in
+    lists-fail (a .g) (a .z .now) (at-wide .wide .result) (at-wide2 .wide2 .result) (at-wide3 .wide3 .result) _ (at-wide .wide .ensures) (at-wide2 .wide2 .ensures) (at-wide3 .wide3 .ensures) refl (c .before .lists-ok .result) (omega arith) (c .before .lists-ok .ensures) (not-true _ (c .if2 .taken))
 
 sub-all-zero : tie.Need-sub-all-zero
 sub-all-zero c =
-    let a = c .before .before .before .before .before .before .before .before .before .before .before .before .before .args in
-    let g = geometry-in (a .g) (c .before .before .before .before .before .before .before .before .before .before .before .before .before .pre .0) in
+    let at-wide = c .before .before .before .before .before .before .before .before .before .before in
+    let start = at-wide .before .before .before in
+    let a = start .args in
+    let g = geometry-in (a .g) (start .pre .0) in
     omega arith
 
 part-all-zero-start : tie.Need-part-all-zero-start
 part-all-zero-start c =
-    let a = c .before .before .before .before .before .before .before .before .before .before .before .before .before .args in
-    let g = geometry-in (a .g) (c .before .before .before .before .before .before .before .before .before .before .before .before .before .pre .0) in
+    let at-wide = c .before .before .before .before .before .before .before .before .before .before in
+    let start = at-wide .before .before .before in
+    let a = start .args in
+    let g = geometry-in (a .g) (start .pre .0) in
     omega arith
 
 part-all-zero-end : tie.Need-part-all-zero-end
@@ -93,9 +101,14 @@ all-zero-requires c κs = search needs
 
 returns-3 : tie.Need-returns-3
 returns-3 c =
-    let a = c .before .before .before .before .before .before .before .before .before .before .before .before .before .before .before .args in
-    let g = geometry-in (a .g) (c .before .before .before .before .before .before .before .before .before .before .before .before .before .before .before .pre .0) in
-    rest-decides (a .g) (a .z .now) (c .before .before .before .before .before .before .before .before .before .before .before .before .wide .result) (c .before .before .before .before .before .before .before .before .before .before .wide2 .result) (c .before .before .before .before .before .before .before .before .wide3 .result) _ (c .before .before .before .before .before .before .before .before .before .before .before .before .wide .ensures) (c .before .before .before .before .before .before .before .before .before .before .wide2 .ensures) (c .before .before .before .before .before .before .before .before .wide3 .ensures) refl (c .before .before .before .lists-ok .result) (c .all-zero .result) (omega arith) (c .before .before .before .lists-ok .ensures) (not-false _ (c .before .before .if2 .left)) (c .all-zero .ensures)
+    let at-lists-ok = c .before .before .before in
+    let at-wide3 = at-lists-ok .before .before .before .before .before in
+    let at-wide2 = at-wide3 .before .before in
+    let at-wide = at-wide2 .before .before in
+    let start = at-wide .before .before .before in
+    let a = start .args in
+    let g = geometry-in (a .g) (start .pre .0) in
+    rest-decides (a .g) (a .z .now) (at-wide .wide .result) (at-wide2 .wide2 .result) (at-wide3 .wide3 .result) _ (at-wide .wide .ensures) (at-wide2 .wide2 .ensures) (at-wide3 .wide3 .ensures) refl (at-lists-ok .lists-ok .result) (c .all-zero .result) (omega arith) (at-lists-ok .lists-ok .ensures) (not-false _ (c .before .before .if2 .left)) (c .all-zero .ensures)
 
 pub zone-page-ok-spec : {M : Type 1} → statement M
 zone-page-ok-spec =

@@ -75,13 +75,19 @@ shared-slice-read-zones-of c = search needs
 
 zones-of-requires : tie.Need-zones-of-requires
 zones-of-requires c κs =
-    let a = c .before .before .before .before .before .before .before .before .before .before .before .before .before .before .args .z .now in
-    let h = c .before .before .before .before .before .before .before .before .before .before .before .before .before .before .pre in
-    let na = c .before .before .before .before .before .before .before .before .before .before .before .wide .result in
-    let nu = c .before .before .before .before .before .before .before .before .before .wide2 .result in
-    let nf = c .before .before .before .before .before .before .before .wide3 .result in
-    let ca = part-count a 8 (8 + na) na (c .before .before .before .before .before .of .result) refl (c .before .before .before .before .before .of .ensures) in
-    let cu = part-count a (8 + na) (8 + na + nu) nu (c .before .before .before .of2 .result) refl (c .before .before .before .of2 .ensures) in
+    let at-of2 = c .before .before .before in
+    let at-of = at-of2 .before .before in
+    let at-wide3 = at-of .before .before in
+    let at-wide2 = at-wide3 .before .before in
+    let at-wide = at-wide2 .before .before in
+    let start = at-wide .before .before .before in
+    let a = start .args .z .now in
+    let h = start .pre in
+    let na = at-wide .wide .result in
+    let nu = at-wide2 .wide2 .result in
+    let nf = at-wide3 .wide3 .result in
+    let ca = part-count a 8 (8 + na) na (at-of .of .result) refl (at-of .of .ensures) in
+    let cu = part-count a (8 + na) (8 + na + nu) nu (at-of2 .of2 .result) refl (at-of2 .of2 .ensures) in
     let cf = part-count a (8 + na + nu) (8 + na + nu + nf) nf (c .before .of3 .result) refl (c .before .of3 .ensures) in
     let few = h .available in
     let all = h .all in
@@ -89,17 +95,23 @@ zones-of-requires c κs =
 
 returns : tie.Need-returns
 returns c =
-    let a = c .before .before .before .before .before .before .before .before .before .before .before .before .before .before .before .args .z .now in
-    let ea = c .before .before .before .before .before .before .before .before .before .before .before .before .wide .ensures in
-    let eu = c .before .before .before .before .before .before .before .before .before .before .wide2 .ensures in
-    let ef = c .before .before .before .before .before .before .before .before .wide3 .ensures in
-    let na = c .before .before .before .before .before .before .before .before .before .before .before .before .wide .result in
-    let nu = c .before .before .before .before .before .before .before .before .before .before .wide2 .result in
-    let nf = c .before .before .before .before .before .before .before .before .wide3 .result in
-    let ka = part-kept a 8 (8 + na) na (c .before .before .before .before .before .before .of .result) refl (c .before .before .before .before .before .before .of .ensures) in
-    let ku = part-kept a (8 + na) (8 + na + nu) nu (c .before .before .before .before .of2 .result) refl (c .before .before .before .before .of2 .ensures) in
+    let at-of2 = c .before .before .before .before in
+    let at-of = at-of2 .before .before in
+    let at-wide3 = at-of .before .before in
+    let at-wide2 = at-wide3 .before .before in
+    let at-wide = at-wide2 .before .before in
+    let start = at-wide .before .before .before in
+    let a = start .args .z .now in
+    let ea = at-wide .wide .ensures in
+    let eu = at-wide2 .wide2 .ensures in
+    let ef = at-wide3 .wide3 .ensures in
+    let na = at-wide .wide .result in
+    let nu = at-wide2 .wide2 .result in
+    let nf = at-wide3 .wide3 .result in
+    let ka = part-kept a 8 (8 + na) na (at-of .of .result) refl (at-of .of .ensures) in
+    let ku = part-kept a (8 + na) (8 + na + nu) nu (at-of2 .of2 .result) refl (at-of2 .of2 .ensures) in
     let kf = part-kept a (8 + na + nu) (8 + na + nu + nf) nf (c .before .before .of3 .result) refl (c .before .before .of3 .ensures) in
-    zones-read a na nu nf (c .before .before .before .before .before .before .of .result) (c .before .before .before .before .of2 .result) (c .before .before .of3 .result) (c .zones-of .result) ea eu ef ka ku kf (c .zones-of .ensures)
+    zones-read a na nu nf (at-of .of .result) (at-of2 .of2 .result) (c .before .before .of3 .result) (c .zones-of .result) ea eu ef ka ku kf (c .zones-of .ensures)
 
 pub zones-in-spec : {M : Type 1} → statement M
 zones-in-spec =

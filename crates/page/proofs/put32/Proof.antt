@@ -1,64 +1,42 @@
--- `page::put32` meets its contract: four stores, one after the other. Assumes nothing.
-use native.Mathlib.Omega.{arith}
-use native.Mathlib.Numerals.{towards-suc}
-use lib.ListN.{length-set}
+-- `page::put32` meets its contract: the bytes of both halves, one after the other. Assumes nothing.
 use borrow.Author.Needs.{needs}
+use Rattle.page.proofs.Storing.{two-halves}
 use Rattle.page.proofs.put32.Statement.{statement}
 use Rattle.page.proofs.put32.Tie as tie
 
-cast-page : tie.Need-cast-page
-cast-page c = search needs
+cast-put16 : tie.Need-cast-put16
+cast-put16 c = search needs
 
-slice-write-page : tie.Need-slice-write-page
-slice-write-page c = search needs
+put16-requires : tie.Need-put16-requires
+put16-requires c κs = search needs
 
-cast-page-2 : tie.Need-cast-page-2
-cast-page-2 c = search needs
+add-put16 : tie.Need-add-put16
+add-put16 c = search needs
 
-add-page : tie.Need-add-page
-add-page c = search needs
+cast-put16-2 : tie.Need-cast-put16-2
+cast-put16-2 c = search needs
 
-slice-write-page-2 : tie.Need-slice-write-page-2
-slice-write-page-2 c = simp length-set (omega arith)
-
-cast-page-3 : tie.Need-cast-page-3
-cast-page-3 c = search needs
-
-add-page-2 : tie.Need-add-page-2
-add-page-2 c = search needs
-
-slice-write-page-3 : tie.Need-slice-write-page-3
-slice-write-page-3 c = simp length-set (omega arith)
-
-cast-page-4 : tie.Need-cast-page-4
-cast-page-4 c = search needs
-
-add-page-3 : tie.Need-add-page-3
-add-page-3 c = search needs
-
-slice-write-page-4 : tie.Need-slice-write-page-4
-slice-write-page-4 c = simp length-set (omega arith)
+put16-requires-2 : tie.Need-put16-requires-2
+put16-requires-2 c κs = search needs
 
 same-length : tie.Need-same-length
 same-length c = search needs
 
 returns : tie.Need-returns
-returns c = simp towards-suc
+returns c =
+    let high = c .before .before in
+    let low = high .before .before .before .before in
+    let a = low .before .before .before .args in
+    two-halves (a .x) (a .at) (a .page .now) _ _ (low .put16 .ensures) (high .put162 .ensures)
 
 pub put32-spec : {M : Type 1} → statement M
 put32-spec =
     tie.close
     (tie.spec
-    cast-page
-    slice-write-page
-    cast-page-2
-    add-page
-    slice-write-page-2
-    cast-page-3
-    add-page-2
-    slice-write-page-3
-    cast-page-4
-    add-page-3
-    slice-write-page-4
+    cast-put16
+    put16-requires
+    add-put16
+    cast-put16-2
+    put16-requires-2
     same-length
     returns)

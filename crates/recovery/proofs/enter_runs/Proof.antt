@@ -45,42 +45,51 @@ run-version-requires c κs =
     let i = c .before .before .before .loop .i in
     part-enterable (a .array .now) (a .order .now) (a .map .now) (a .bests .now) (c .before .run-end .result - i) i (c .before .before .before .before .before .before .before .before .pre .0) (a .map .now) (a .bests .now) refl refl .pages
 
-mul-enter-run : tie.Need-mul-enter-run Inv-loop μ-loop
-mul-enter-run c = let f = c .before .before .before .before .run-end .ensures in omega (arith, f .1 .0, f .1 .1)
+mul-enter-pages : tie.Need-mul-enter-pages Inv-loop μ-loop
+mul-enter-pages c = let f = c .before .before .before .before .run-end .ensures in omega (arith, f .1 .0, f .1 .1)
 
-sub-enter-run : tie.Need-sub-enter-run Inv-loop μ-loop
-sub-enter-run c = let f = c .before .before .before .before .run-end .ensures in omega (arith, f .1 .0, f .1 .1)
+sub-enter-pages : tie.Need-sub-enter-pages Inv-loop μ-loop
+sub-enter-pages c = let f = c .before .before .before .before .run-end .ensures in omega (arith, f .1 .0, f .1 .1)
 
-part-enter-run-start : tie.Need-part-enter-run-start Inv-loop μ-loop
-part-enter-run-start c = let f = c .before .before .before .before .run-end .ensures in omega (arith, f .1 .0, f .1 .1)
+part-enter-pages-start : tie.Need-part-enter-pages-start Inv-loop μ-loop
+part-enter-pages-start c = let f = c .before .before .before .before .run-end .ensures in omega (arith, f .1 .0, f .1 .1)
 
-part-enter-run-end : tie.Need-part-enter-run-end Inv-loop μ-loop
-part-enter-run-end c = let f = c .before .before .before .before .run-end .ensures in omega (arith, f .1 .0, f .1 .1)
+part-enter-pages-end : tie.Need-part-enter-pages-end Inv-loop μ-loop
+part-enter-pages-end c = let f = c .before .before .before .before .run-end .ensures in omega (arith, f .1 .0, f .1 .1)
 
-enter-run-requires : tie.Need-enter-run-requires Inv-loop μ-loop
-enter-run-requires c κs =
-    let a = c .before .before .before .before .before .before .before .before .before .before .before .before .args in
-    let l = c .before .before .before .before .before .before .before .loop in
-    part-enterable (a .array .now) (a .order .now) (a .map .now) (a .bests .now) (c .before .before .before .before .before .run-end .result - l .i) (l .i) (c .before .before .before .before .before .before .before .before .before .before .before .before .pre .0) (l .map) (l .bests) (l .inv .1 .1 .0) (l .inv .1 .1 .1 .0)
+enter-pages-requires : tie.Need-enter-pages-requires Inv-loop μ-loop
+enter-pages-requires c κs =
+    let at-run-end = c .before .before .before .before .before in
+    let looped = at-run-end .before .before in
+    let start = looped .before .before .before .before .before in
+    let a = start .args in
+    let l = looped .loop in
+    part-enterable (a .array .now) (a .order .now) (a .map .now) (a .bests .now) (at-run-end .run-end .result - l .i) (l .i) (start .pre .0) (l .map) (l .bests) (l .inv .1 .1 .0) (l .inv .1 .1 .1 .0)
 
 loop-less : tie.Need-loop-less Inv-loop μ-loop
 loop-less c = let f = c .before .before .before .before .before .before .before .before .before .before .run-end .ensures in omega (arith, f .1 .0, f .1 .1)
 
 loop-again : tie.Need-loop-again Inv-loop μ-loop
 loop-again c =
-    let a = c .before .before .before .before .before .before .before .before .before .before .before .before .before .before .before .before .before .args in
-    let l = c .before .before .before .before .before .before .before .before .before .before .before .before .loop in
-    let f = c .before .before .before .before .before .before .before .before .before .before .run-end .ensures in
-    let j = c .before .before .before .before .before .before .before .before .before .before .run-end .result in
+    let at-map = c .before .before .before in
+    let at-enter-pages = at-map .before in
+    let at-run-version = at-enter-pages .before .before .before .before in
+    let at-run-end = at-run-version .before .before in
+    let looped = at-run-end .before .before in
+    let start = looped .before .before .before .before .before in
+    let a = start .args in
+    let l = looped .loop in
+    let f = at-run-end .run-end .ensures in
+    let j = at-run-end .run-end .result in
     let h : l .i < length (a .order .now) = omega arith in
-    let v = c .before .before .before .before .before .before .before .before .run-version .ensures in
-    let s = run-step (a .array .now) (a .order .now) (l .i) j (c .before .before .before .before .before .before .before .before .before .before .before .before .before .before .before .before .before .pre .1) h (f .0) (l .inv .1 .0) (best (a .map .now) (a .bests .now)) in (
+    let v = at-run-version .run-version .ensures in
+    let s = run-step (a .array .now) (a .order .now) (l .i) j (start .pre .1) h (f .0) (l .inv .1 .0) (best (a .map .now) (a .bests .now)) in (
       f .1 .1,
       (
-        run-bound (a .array .now) (a .order .now) (l .i) j (c .before .before .before .before .before .before .before .before .before .before .before .before .before .before .before .before .before .pre .1) h (f .0) (l .inv .1 .0),
+        run-bound (a .array .now) (a .order .now) (l .i) j (start .pre .1) h (f .0) (l .inv .1 .0),
         (
-          omega (arith, l .inv .1 .1 .0, c .before .before .before .map .given),
-          (omega (arith, l .inv .1 .1 .1 .0, c .before .bests .given), c .before .before .before .before .enter-run .ensures ∙ rw (v, l .inv .1 .1 .1 .1) s),
+          omega (arith, l .inv .1 .1 .0, at-map .map .given),
+          (omega (arith, l .inv .1 .1 .1 .0, c .before .bests .given), at-enter-pages .enter-pages .ensures ∙ rw (v, l .inv .1 .1 .1 .1) s),
         ),
       ),
     )
@@ -110,11 +119,11 @@ enter-runs-spec =
     part-run-version-start
     part-run-version-end
     run-version-requires
-    mul-enter-run
-    sub-enter-run
-    part-enter-run-start
-    part-enter-run-end
-    enter-run-requires
+    mul-enter-pages
+    sub-enter-pages
+    part-enter-pages-start
+    part-enter-pages-end
+    enter-pages-requires
     loop-less
     loop-again
     same-length

@@ -33,8 +33,11 @@ same-length-2 c = search needs
 
 returns-2 : tie.Need-returns-2
 returns-2 c =
-    let a = c .before .before .before .before .before .before .before .before .before .before .before .before .before .before .before .before .args in
-    redo-all (a .planes) (a .floor) 1024 (a .map .now) (a .array .now) (a .pages) (a .bs .now) (a .changes .now) (a .notes .now) (a .other .now) (λ i. c .before .before .before .before .before .before .before .before .before .before .before .before .before .before .shared-slice-known .given i .fits) (c .before .before .before .before .before .before .before .before .before .before .before .before .before .before .before .before .pre .0) (c .before .before .before .before .before .before .before .before .before .before .before .before .before .before .before .before .pre .0 .few) _ _ (c .before .before .before .before .before .enter-all .ensures)
+    let at-enter-all = c .before .before .before .before .before in
+    let at-shared-slice-known = at-enter-all .before .before .before .before .before .before .before .before .before in
+    let start = at-shared-slice-known .before .before in
+    let a = start .args in
+    redo-all (a .planes) (a .floor) 1024 (a .map .now) (a .array .now) (a .pages) (a .bs .now) (a .changes .now) (a .notes .now) (a .other .now) (λ i. at-shared-slice-known .shared-slice-known .given i .fits) (start .pre .0) (start .pre .0 .few) _ _ (at-enter-all .enter-all .ensures)
 
 pub redo-spec : {M : Type 1} → statement M
 redo-spec =

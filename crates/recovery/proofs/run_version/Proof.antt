@@ -9,10 +9,8 @@ use mathlib.Core.List.{List}
 use borrow.Author.Tests.{eq-eqb, ne-eqb}
 use Rattle.model.specs.Lists.{those}
 use Rattle.model.specs.Bytes.{le16, le32}
-use Rattle.model.specs.Page.{pageAt}
 use Rattle.model.specs.Zones.{Entry}
 use Rattle.model.specs.Recovery.{top}
-use Rattle.sorting.proofs.Laws.{page-fits}
 use Rattle.scan.specs.Taken.{entryIn, entriesIn}
 use Rattle.recovery.specs.Redo.{runVersion}
 use Rattle.recovery.proofs.Fields.{field-cnt, field-ver}
@@ -30,43 +28,34 @@ loop-holds : tie.Need-loop-holds Inv-loop μ-loop
 unfolding entriesIn those top
 loop-holds c = (omega arith, refl)
 
-mul-wide16 : tie.Need-mul-wide16 Inv-loop μ-loop
-mul-wide16 c = omega arith
-
-shared-slice-read-wide16 : tie.Need-shared-slice-read-wide16 Inv-loop μ-loop
-shared-slice-read-wide16 c = omega arith
-
-wide16-requires : tie.Need-wide16-requires Inv-loop μ-loop
-wide16-requires c κs = omega arith
-
-page-of-requires : tie.Need-page-of-requires Inv-loop μ-loop
-page-of-requires c κs = rw (c .wide16 .ensures) (page-fits _ (c .before .before .before .before .before .before .args .run .now) (c .before .before .before .loop .i) (c .before .before .before .before .before .before .pre) (omega arith))
+listed-page-requires : tie.Need-listed-page-requires Inv-loop μ-loop
+listed-page-requires c κs = (c .before .before .before .before .pre, omega arith)
 
 add-i : tie.Need-add-i Inv-loop μ-loop
 add-i c = omega arith
 
 word16-requires : tie.Need-word16-requires Inv-loop μ-loop
-word16-requires c κs = omega (arith, c .page-of .ensures .1)
+word16-requires c κs = omega (arith, c .listed-page .ensures .1)
 
-wide16-requires-2 : tie.Need-wide16-requires-2 Inv-loop μ-loop
-wide16-requires-2 c κs = omega arith
+wide16-requires : tie.Need-wide16-requires Inv-loop μ-loop
+wide16-requires c κs = omega arith
 
 loop-less : tie.Need-loop-less Inv-loop μ-loop
 loop-less c = omega arith
 
 loop-again : tie.Need-loop-again Inv-loop μ-loop
 loop-again c =
-    let a = c .before .before .before .before .before .before .before .before .before .before .args in
-    let l = c .before .before .before .before .before .before .before .loop in
+    let at-page = c .before .before .before in
+    let l = at-page .before .before .loop in
+    let a = at-page .before .before .before .before .before .args in
     let k = getD (a .run .now) (l .i) 0 in
-    let e = c .before .before .before .page-of .ensures .0 ∙ ap (pageAt (a .array .now)) (c .before .before .before .before .wide16 .ensures) in
-    let w = c .before .wide162 .ensures ∙ c .before .before .word16 .ensures ∙ ap (λ q. le16 q 514) e ∙ field-cnt (a .array .now) k in (
+    let w = c .before .wide16 .ensures ∙ c .before .before .word16 .ensures ∙ ap (λ q. le16 q 514) (at-page .listed-page .ensures .0) ∙ field-cnt (a .array .now) k in (
       omega arith,
       l .inv .1 ∙ sym (version-same (λ (x : Entry). eqb (x .cnt) (length (a .run .now))) (a .array .now) (a .run .now) (l .i) (omega arith) (ne-eqb (entryIn (a .array .now) k .cnt) (length (a .run .now)) (λ q. c .if1 .taken (w ∙ q)))),
     )
 
 word32-requires : tie.Need-word32-requires Inv-loop μ-loop
-word32-requires c κs = omega (arith, c .before .before .before .page-of .ensures .1)
+word32-requires c κs = omega (arith, c .before .before .before .listed-page .ensures .1)
 
 higher-requires : tie.Need-higher-requires Inv-loop μ-loop
 higher-requires c κs = omega arith
@@ -76,11 +65,13 @@ loop-less-2 c = omega arith
 
 loop-again-2 : tie.Need-loop-again-2 Inv-loop μ-loop
 loop-again-2 c =
-    let a = c .before .before .before .before .before .before .before .before .before .before .before .before .args in
-    let l = c .before .before .before .before .before .before .before .before .before .loop in
+    let wide = c .before .before .before in
+    let at-page = wide .before .before in
+    let l = at-page .before .before .loop in
+    let a = at-page .before .before .before .before .before .args in
     let k = getD (a .run .now) (l .i) 0 in
-    let e = c .before .before .before .before .before .page-of .ensures .0 ∙ ap (pageAt (a .array .now)) (c .before .before .before .before .before .before .wide16 .ensures) in
-    let w = c .before .before .before .wide162 .ensures ∙ c .before .before .before .before .word16 .ensures ∙ ap (λ q. le16 q 514) e ∙ field-cnt (a .array .now) k in
+    let e = at-page .listed-page .ensures .0 in
+    let w = wide .wide16 .ensures ∙ wide .before .word16 .ensures ∙ ap (λ q. le16 q 514) e ∙ field-cnt (a .array .now) k in
     let u = c .before .word32 .ensures ∙ ap (λ q. le32 q 520) e ∙ field-ver (a .array .now) k in (
       omega arith,
       c .higher .ensures ∙ rw (l .inv .1, u)
@@ -101,13 +92,10 @@ run-version-spec =
     Inv-loop
     μ-loop
     loop-holds
-    mul-wide16
-    shared-slice-read-wide16
-    wide16-requires
-    page-of-requires
+    listed-page-requires
     add-i
     word16-requires
-    wide16-requires-2
+    wide16-requires
     loop-less
     loop-again
     word32-requires
