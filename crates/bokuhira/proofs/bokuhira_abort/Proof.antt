@@ -30,8 +30,13 @@ same-length-2 c = search needs
 
 returns-2 : tie.Need-returns-2
 returns-2 c =
-    let g = c .before .before .before .before .before .before .before .before .before .before .before .before .before .before .args in
-    met (abort (g .id)) (g .array .now) (g .map .now) (g .hold .now) (g .state .now) _ _ _ _ _ _ _ _ (coded _ (c .before .before .before .before .before .before .before .before .encodes .result) (c .before .before .before .before .before .before .before .before .encodes .ensures) (c .before .before .before .before .before .before .before .if1 .left)) (c .before .before .before .before .before .device .ensures) (c .before .before .before .before .abort .ensures) (c .before .before .finish .ensures)
+    let at-abort = c .before .before .before .before in
+    let at-device = at-abort .before in
+    let at-if1 = at-device .before .before in
+    let at-encodes = at-if1 .before in
+    let start = at-encodes .before .before .before .before .before .before in
+    let g = start .args in
+    met (abort (g .id)) (g .array .now) (g .map .now) (g .hold .now) (g .state .now) _ _ _ _ _ _ _ _ (coded _ (at-encodes .encodes .result) (at-encodes .encodes .ensures) (at-if1 .if1 .left)) (at-device .device .ensures) (at-abort .abort .ensures) (c .before .before .finish .ensures)
 
 pub bokuhira-abort-spec : {M : Type 1} → statement M
 bokuhira-abort-spec =

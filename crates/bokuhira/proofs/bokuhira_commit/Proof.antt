@@ -23,7 +23,10 @@ commit-requires : tie.Need-commit-requires
 commit-requires c κs = search needs
 
 finish-requires : tie.Need-finish-requires
-finish-requires c κs = coded-long _ (coded _ (c .before .before .before .before .before .before .before .before .before .before .before .encodes .result) (c .before .before .before .before .before .before .before .before .before .before .before .encodes .ensures) (c .before .before .before .before .before .before .before .before .before .before .if1 .left))
+finish-requires c κs =
+    let at-if1 = c .before .before .before .before .before .before .before .before .before .before in
+    let at-encodes = at-if1 .before in
+    coded-long _ (coded _ (at-encodes .encodes .result) (at-encodes .encodes .ensures) (at-if1 .if1 .left))
 
 same-length-2 : tie.Need-same-length-2
 same-length-2 c = search needs
@@ -36,8 +39,13 @@ same-length-4 c = search needs
 
 returns-2 : tie.Need-returns-2
 returns-2 c =
-    let g = c .before .before .before .before .before .before .before .before .before .before .before .before .before .before .before .before .before .before .before .before .args in
-    met (commit (g .id)) (g .array .now) (g .map .now) (g .hold .now) (g .state .now) _ _ _ _ _ _ _ _ (coded _ (c .before .before .before .before .before .before .before .before .before .before .before .before .before .before .encodes .result) (c .before .before .before .before .before .before .before .before .before .before .before .before .before .before .encodes .ensures) (c .before .before .before .before .before .before .before .before .before .before .before .before .before .if1 .left)) (c .before .before .before .before .before .before .before .before .before .before .before .device .ensures) (c .before .before .before .before .before .before .before .before .commit .ensures) (c .before .before .finish .ensures)
+    let at-commit = c .before .before .before .before .before .before .before .before in
+    let at-device = at-commit .before .before .before in
+    let at-if1 = at-device .before .before in
+    let at-encodes = at-if1 .before in
+    let start = at-encodes .before .before .before .before .before .before in
+    let g = start .args in
+    met (commit (g .id)) (g .array .now) (g .map .now) (g .hold .now) (g .state .now) _ _ _ _ _ _ _ _ (coded _ (at-encodes .encodes .result) (at-encodes .encodes .ensures) (at-if1 .if1 .left)) (at-device .device .ensures) (at-commit .commit .ensures) (c .before .before .finish .ensures)
 
 pub bokuhira-commit-spec : {M : Type 1} → statement M
 bokuhira-commit-spec =

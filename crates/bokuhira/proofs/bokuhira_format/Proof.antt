@@ -23,7 +23,10 @@ format-requires : tie.Need-format-requires
 format-requires c κs = search needs
 
 finish-requires : tie.Need-finish-requires
-finish-requires c κs = long _ (c .before .before .before .before .before .before .before .before .before .before .before .sized .result) (c .before .before .before .before .before .before .before .before .before .before .before .sized .ensures) (c .before .before .before .before .before .before .before .before .before .before .if1 .left)
+finish-requires c κs =
+    let at-if1 = c .before .before .before .before .before .before .before .before .before .before in
+    let at-sized = at-if1 .before in
+    long _ (at-sized .sized .result) (at-sized .sized .ensures) (at-if1 .if1 .left)
 
 same-length-2 : tie.Need-same-length-2
 same-length-2 c = search needs
@@ -36,8 +39,13 @@ same-length-4 c = search needs
 
 returns-2 : tie.Need-returns-2
 returns-2 c =
-    let g = c .before .before .before .before .before .before .before .before .before .before .before .before .before .before .before .before .before .before .before .before .args in
-    start-met format (record { blocks = g .blocks; pages = g .pages; logical = g .logical; planes = g .planes }) (g .array .now) (g .map .now) (g .hold .now) (g .state .now) _ _ _ _ _ _ _ _ (long _ (c .before .before .before .before .before .before .before .before .before .before .before .before .before .before .sized .result) (c .before .before .before .before .before .before .before .before .before .before .before .before .before .before .sized .ensures) (c .before .before .before .before .before .before .before .before .before .before .before .before .before .if1 .left)) (c .before .before .before .before .before .before .before .before .before .before .before .starting .ensures) (c .before .before .before .before .before .before .before .before .format .ensures) (c .before .before .finish .ensures)
+    let at-format = c .before .before .before .before .before .before .before .before in
+    let at-starting = at-format .before .before .before in
+    let at-if1 = at-starting .before .before in
+    let at-sized = at-if1 .before in
+    let start = at-sized .before .before .before .before .before .before in
+    let g = start .args in
+    start-met format (record { blocks = g .blocks; pages = g .pages; logical = g .logical; planes = g .planes }) (g .array .now) (g .map .now) (g .hold .now) (g .state .now) _ _ _ _ _ _ _ _ (long _ (at-sized .sized .result) (at-sized .sized .ensures) (at-if1 .if1 .left)) (at-starting .starting .ensures) (at-format .format .ensures) (c .before .before .finish .ensures)
 
 pub bokuhira-format-spec : {M : Type 1} → statement M
 bokuhira-format-spec =

@@ -32,18 +32,32 @@ mul-at : tie.Need-mul-at
 mul-at c = search needs
 
 shared-slice-read-at : tie.Need-shared-slice-read-at
-shared-slice-read-at c = mapped (c .before .before .before .before .before .before .before .before .before .before .before .args .lpn) _ _ _ _ (c .before .before .before .read .ensures) (c .before .before .number .ensures) (c .before .if2 .left)
+shared-slice-read-at c =
+    let at-read = c .before .before .before in
+    let start = at-read .before .before .before .before .before .before .before .before in
+    mapped (start .args .lpn) _ _ _ _ (at-read .read .ensures) (c .before .before .number .ensures) (c .before .if2 .left)
 
 cast-at : tie.Need-cast-at
-cast-at c = omega (arith, c .shared-slice-known5 .given (c .before .before .before .before .before .before .before .before .before .before .before .args .lpn))
+cast-at c =
+    let to-start = c .before .before .before .before .before in
+    let start = to-start .before .before .before .before .before .before in
+    omega (arith, c .shared-slice-known5 .given (start .args .lpn))
 
 mul-at-2 : tie.Need-mul-at-2
-mul-at-2 c = omega (arith, c .shared-slice-known5 .given (c .before .before .before .before .before .before .before .before .before .before .before .args .lpn))
+mul-at-2 c =
+    let to-start = c .before .before .before .before .before in
+    let start = to-start .before .before .before .before .before .before in
+    omega (arith, c .shared-slice-known5 .given (start .args .lpn))
 
 returns-3 : tie.Need-returns-3
 returns-3 c =
-    let g = c .before .before .before .before .before .before .before .before .before .before .before .args in
-    read-done (g .lpn) (g .array .now) (g .map .now) (g .hold .now) (g .state .now) _ _ _ _ _ _ (coded _ (c .before .before .before .before .before .before .encodes .result) (c .before .before .before .before .before .before .encodes .ensures) (c .before .before .before .before .before .if1 .left)) (c .before .before .before .before .device .ensures) (c .before .before .before .read .ensures) (c .before .before .number .ensures) (c .before .if2 .left) refl
+    let at-read = c .before .before .before in
+    let at-device = at-read .before in
+    let at-if1 = at-device .before in
+    let at-encodes = at-if1 .before in
+    let start = at-encodes .before .before .before .before .before in
+    let g = start .args in
+    read-done (g .lpn) (g .array .now) (g .map .now) (g .hold .now) (g .state .now) _ _ _ _ _ _ (coded _ (at-encodes .encodes .result) (at-encodes .encodes .ensures) (at-if1 .if1 .left)) (at-device .device .ensures) (at-read .read .ensures) (c .before .before .number .ensures) (c .before .if2 .left) refl
 
 pub bokuhira-read-spec : {M : Type 1} → statement M
 bokuhira-read-spec =

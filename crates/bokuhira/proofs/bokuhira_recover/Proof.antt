@@ -33,8 +33,13 @@ same-length-3 c = search needs
 
 returns-2 : tie.Need-returns-2
 returns-2 c =
-    let g = c .before .before .before .before .before .before .before .before .before .before .before .before .before .before .before .before .args in
-    recover-met (record { blocks = g .blocks; pages = g .pages; logical = g .logical; planes = g .planes }) (g .array .now) (g .map .now) (g .hold .now) (g .state .now) _ _ _ _ _ _ _ _ (long _ (c .before .before .before .before .before .before .before .before .before .before .sized .result) (c .before .before .before .before .before .before .before .before .before .before .sized .ensures) (c .before .before .before .before .before .before .before .before .before .if1 .left)) (c .before .before .before .before .before .before .before .before .fresh .ensures) (c .before .before .before .before .before .before .recover .ensures) (c .before .before .finish .ensures)
+    let at-recover = c .before .before .before .before .before .before in
+    let at-fresh = at-recover .before .before in
+    let at-if1 = at-fresh .before in
+    let at-sized = at-if1 .before in
+    let start = at-sized .before .before .before .before .before .before in
+    let g = start .args in
+    recover-met (record { blocks = g .blocks; pages = g .pages; logical = g .logical; planes = g .planes }) (g .array .now) (g .map .now) (g .hold .now) (g .state .now) _ _ _ _ _ _ _ _ (long _ (at-sized .sized .result) (at-sized .sized .ensures) (at-if1 .if1 .left)) (at-fresh .fresh .ensures) (at-recover .recover .ensures) (c .before .before .finish .ensures)
 
 pub bokuhira-recover-spec : {M : Type 1} → statement M
 bokuhira-recover-spec =

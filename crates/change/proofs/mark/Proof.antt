@@ -33,12 +33,13 @@ cast-write-held c = search needs
 
 write-held-requires : tie.Need-write-held-requires
 write-held-requires c κs =
-    let o = c .before .before .before .before .before .before .before .before .before .before .before .before in
+    let at-next-page = c .before .before .before in
+    let o = at-next-page .before .before .before .before .before .before .before .before .before in
     let a = o .args in
     let f = frame-in (a .s) (a .array .now) (a .map .now) (a .hold .now) (o .pre .0 .frame) in
     let h = next-fits (a .s) (a .array .now) (f .ready) in
     let m = count-most (a .s .geometry) _ (place-at (a .s .geometry) (a .s .places) (a .i) (f .places)) in
-    (rw (c .before .before .before .next-page .ensures) h, (f .hold, (o .pre .1 .0, m)))
+    (rw (at-next-page .next-page .ensures) h, (f .hold, (o .pre .1 .0, m)))
 
 cast-ppns : tie.Need-cast-ppns
 cast-ppns c =
@@ -80,7 +81,8 @@ enter-requires c κs =
 with-marked-requires : tie.Need-with-marked-requires
 with-marked-requires c κs =
     let h = c .before .before .before .before .before .before .before .before .before .before in
-    let o = h .before .before .before .before .before .before .before .before .before .before .before .before in
+    let to-o = h .before .before .before .before .before .before in
+    let o = to-o .before .before .before .before .before .before in
     let a = o .args in
     let f = frame-in (a .s) (a .array .now) (a .map .now) (a .hold .now) (o .pre .0 .frame) in
     (o .pre .1 .0, some-pages (a .s) (a .array .now) (f .ready))

@@ -80,29 +80,36 @@ clean-short-requires c κs =
 
 array-share-prefix-a-2 : tie.Need-array-share-prefix-a-2
 array-share-prefix-a-2 c =
-    let s = c .before .before .before .before .before .before .before .before .before .before .before .before in
+    let half = c .before .before .before .before .before .before in
+    let s = half .before .before .before .before .before .before in
     let l = available-long s in
     let f = ready-listed _ _ _ (s .pre) .few in
     omega arith
 
 slice-aggregate-next-in-2 : tie.Need-slice-aggregate-next-in-2
 slice-aggregate-next-in-2 c =
-    let s = c .before .before .before .before .before .before .before .before .before .before .before .before .before in
+    let half = c .before .before .before .before .before .before in
+    let s = half .before .before .before .before .before .before .before in
     let l = available-long s in
     let f = ready-listed _ _ _ (s .pre) .few in
     sym (length-take-le (s .args .s .zones .na) (s .args .s .zones .available) (omega arith))
 
 next-in-requires-2 : tie.Need-next-in-requires-2
 next-in-requires-2 c κs =
-    let s = c .before .before .before .before .before .before .before .before .before .before .before .before .before in
+    let half = c .before .before .before .before .before .before in
+    let s = half .before .before .before .before .before .before .before in
     available-within _ _ _ (s .pre)
 
 returns-2 : tie.Need-returns-2
 returns-2 c =
-    let a = c .before .before .before .before .before .before .before .before .before .before .before .before .before .before .args in
-    let two = c .before .before .before .before .before .before .before .if1 .left in
-    let is = c .before .before .before .before .before .before .others .ensures .1 in
-    let short = rw is at (sym (c .before .before .before .clean-short .ensures) ∙ c .before .before .if2 .taken) in
+    let at-clean-short = c .before .before .before in
+    let at-others = at-clean-short .before .before .before in
+    let at-if1 = at-others .before in
+    let start = at-if1 .before .before .before .before .before .before .before in
+    let a = start .args in
+    let two = at-if1 .if1 .left in
+    let is = at-others .others .ensures .1 in
+    let short = rw is at (sym (at-clean-short .clean-short .ensures) ∙ c .before .before .if2 .taken) in
     rw (taken-all (a .s .geometry) (a .s .last) (a .array .now) (availableOf (a .s .zones)) two short) (c .next-in2 .ensures)
 
 array-share-prefix-list-2 : tie.Need-array-share-prefix-list-2
@@ -126,10 +133,14 @@ next-in-requires-3 c κs =
 
 returns-3 : tie.Need-returns-3
 returns-3 c =
-    let a = c .before .before .before .before .before .before .before .before .before .before .before .before .before .before .args in
-    let two = c .before .before .before .before .before .before .before .if1 .left in
-    let is = c .before .before .before .before .before .before .others .ensures .1 in
-    let clean = rw is at (sym (c .before .before .before .clean-short .ensures) ∙ c .before .before .if2 .left) in
+    let at-clean-short = c .before .before .before in
+    let at-others = at-clean-short .before .before .before in
+    let at-if1 = at-others .before in
+    let start = at-if1 .before .before .before .before .before .before .before in
+    let a = start .args in
+    let two = at-if1 .if1 .left in
+    let is = at-others .others .ensures .1 in
+    let clean = rw is at (sym (at-clean-short .clean-short .ensures) ∙ c .before .before .if2 .left) in
     rw (taken-other (a .s .geometry) (a .s .last) (a .array .now) (availableOf (a .s .zones)) two clean) (rw is at (c .next-in3 .ensures))
 
 pub next-page-spec : {M : Type 1} → statement M

@@ -22,7 +22,8 @@ next-page-requires c κs =
 
 write-held-requires : tie.Need-write-held-requires
 write-held-requires c κs =
-    let o = c .before .before .before .before .before .before .before .before .before .before .before in
+    let half = c .before .before .before .before .before in
+    let o = half .before .before .before .before .before .before in
     let a = o .args in
     let f = frame-in (a .s) (a .array .now) (a .map .now) (a .hold .now) (o .pre .frame) in
     let h = next-fits (a .s) (a .array .now) (f .ready) in
@@ -31,7 +32,8 @@ write-held-requires c κs =
 
 hold-page-requires : tie.Need-hold-page-requires
 hold-page-requires c κs =
-    let o = c .before .before .before .before .before .before .before .before .before .before .before .before .before .before .before in
+    let half = c .before .before .before .before .before .before .before in
+    let o = half .before .before .before .before .before .before .before .before in
     let a = o .args in
     let f = frame-in (a .s) (a .array .now) (a .map .now) (a .hold .now) (o .pre .frame) in
     (f .hold, (o .pre .place, o .pre .bytes))

@@ -32,7 +32,8 @@ put-lone-requires c κs =
 
 with-page-requires : tie.Need-with-page-requires
 with-page-requires c κs =
-    let o = c .before .before .before .before .before .before .before .before .before .before .before .before .before .before in
+    let half = c .before .before .before .before .before .before .before in
+    let o = half .before .before .before .before .before .before .before in
     let a = o .args in
     let f = frame-in (a .s) (a .array .now) (a .map .now) (a .hold .now) (o .pre .0 .frame) in
     some-pages (a .s) (a .array .now) (f .ready)
@@ -45,13 +46,15 @@ same-length-2 c = search needs
 
 returns : tie.Need-returns
 returns c =
-    let o = c .before .before .before .before .before .before .before .before .before .before .before .before .before .before .before in
+    let at-put-lone = c .before .before .before .before .before in
+    let at-next-page = at-put-lone .before .before .before .before in
+    let o = at-next-page .before .before .before .before .before .before in
     let a = o .args in
     let f = frame-in (a .s) (a .array .now) (a .map .now) (a .hold .now) (o .pre .0 .frame) in
     lone-done (a .s) _ (a .array .now) (a .map .now) (a .hold .now) _ _ (a .lpn) (a .«data» .now) _
-    (c .before .before .before .before .before .before .before .before .before .next-page .ensures)
+    (at-next-page .next-page .ensures)
     (next-erased (a .s) (a .array .now) (f .ready) (let n = o .pre .0 .clean in omega arith))
-    (c .before .before .before .before .before .put-lone .ensures)
+    (at-put-lone .put-lone .ensures)
     (c .with-page .ensures)
 
 pub write-lone-spec : {M : Type 1} → statement M

@@ -56,9 +56,10 @@ add-v c = search needs
 
 cast-put-lone : tie.Need-cast-put-lone
 cast-put-lone c =
-    let s = c .before .before .before .before .before .before .before .before .before .before .before .before .before .before in
+    let at-find-page = c .before .before .before .before .before .before .before .before .before .before in
+    let s = at-find-page .before .before .before .before in
     let p = copy-places (s .args .s) (s .args .array .now) (s .args .map .now) (s .args .j) (s .pre) in
-    let e = c .before .before .before .before .before .before .before .before .before .before .find-page .ensures in
+    let e = at-find-page .find-page .ensures in
     omega arith
 
 slice-aggregate-put-lone : tie.Need-slice-aggregate-put-lone
@@ -66,14 +67,16 @@ slice-aggregate-put-lone c = search needs
 
 put-lone-requires : tie.Need-put-lone-requires
 put-lone-requires c κs =
-    let s = c .before .before .before .before .before .before .before .before .before .before .before .before .before .before .before in
+    let at-next-page = c .before .before .before .before .before .before .before .before .before in
+    let at-find-page = at-next-page .before .before in
+    let s = at-find-page .before .before .before .before in
     let p = copy-places (s .args .s) (s .args .array .now) (s .args .map .now) (s .args .j) (s .pre) in
     let r = fit-ready _ _ _ (s .pre .fit) in
-    let e = c .before .before .before .before .before .before .before .before .before .next-page .ensures in
+    let e = at-next-page .next-page .ensures in
     record {
       inside = rw e (next-fits (s .args .s) (s .args .array .now) r);
       number = rw e (next-small (s .args .s) (s .args .array .now) r);
-      page = rw (c .before .before .before .before .before .before .before .before .before .before .before .find-page .ensures) (p .entry);
+      page = rw (at-find-page .find-page .ensures) (p .entry);
       bytes = sym (slice-aggregate-put-lone c);
     }
 
@@ -91,7 +94,8 @@ same-length-2 c = search needs
 
 returns : tie.Need-returns
 returns c =
-    let h = c .before .before .before .before .before .before .before .before .before .before .before in
+    let at-put-lone = c .before .before .before .before .before in
+    let h = at-put-lone .before .before .before .before .before .before in
     let k = h .before .before .before .before in
     let s = k .before .before .before .before .before .before in
     let a = s .args in
@@ -100,7 +104,7 @@ returns c =
     let d = data-copied (a .array .now) (a .j) _ _ _ _ (p .«from») refl refl refl (h .copy .ensures .1) in
     copy-strode (a .s) (a .array .now) (a .map .now) (a .j) _ (k .before .before .find-page .ensures) _ d _ (k .next-page .ensures)
     (next-erased (a .s) (a .array .now) r (s .pre .clean))
-    _ _ (c .before .before .before .before .before .put-lone .ensures) _ (c .with-copied .ensures)
+    _ _ (at-put-lone .put-lone .ensures) _ (c .with-copied .ensures)
 
 pub copy-stride-spec : {M : Type 1} → statement M
 copy-stride-spec =

@@ -54,8 +54,9 @@ same-length c = search needs
 
 returns : tie.Need-returns
 returns c =
-    let s = c .before .before .before .before .before .before .before .before .before .before .before in
-    free-strode (s .args .s) (s .args .array .now) (s .args .map .now) (s .args .b) _ (c .before .before .before .before .before .before .erase-block .ensures) _ (c .before .freed .ensures) _ _ (c .before .before .with-work .ensures) (c .with-zones .ensures)
+    let at-erase-block = c .before .before .before .before .before .before in
+    let s = at-erase-block .before .before .before .before .before in
+    free-strode (s .args .s) (s .args .array .now) (s .args .map .now) (s .args .b) _ (at-erase-block .erase-block .ensures) _ (c .before .freed .ensures) _ _ (c .before .before .with-work .ensures) (c .with-zones .ensures)
 
 pub free-stride-spec : {M : Type 1} → statement M
 free-stride-spec =

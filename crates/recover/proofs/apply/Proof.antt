@@ -55,7 +55,8 @@ returns c =
 
 number-at-requires : tie.Need-number-at-requires
 number-at-requires c κs =
-    let start = c .before .before .before .before .before .before .before .before .before .before .before .before .before .before .before in
+    let half = c .before .before .before .before .before .before .before in
+    let start = half .before .before .before .before .before .before .before .before in
     let a = start .args in
     let f = zone-fits (a .g) (a .array .now) (a .map .now) (a .k) (start .pre .0) in
     omega arith
@@ -65,7 +66,8 @@ higher-requires c κs = search needs
 
 recovered-requires : tie.Need-recovered-requires
 recovered-requires c κs =
-    let start = c .before .before .before .before .before .before .before .before .before .before .before .before .before .before .before .before .before in
+    let half = c .before .before .before .before .before .before .before .before in
+    let start = half .before .before .before .before .before .before .before .before .before in
     let a = start .args in (start .pre .0 .shape, first-small (a .g) (a .array .now) (a .map .now) (a .k) (start .pre .0))
 
 same-length-2 : tie.Need-same-length-2

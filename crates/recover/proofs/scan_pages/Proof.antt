@@ -55,7 +55,9 @@ same-length-3 c = search needs
 returns : tie.Need-returns
 returns c =
     let at-pages-good = c .before .before .before .before .before in
-    let start = at-pages-good .before .before .before .before .before .before .before .before .before .before .before .before .before .before .before .before .before .before .before .before .before in
+    let far = at-pages-good .before .before .before .before .before .before .before in
+    let farther = far .before .before .before .before .before .before .before in
+    let start = farther .before .before .before .before .before .before .before in
     let a = start .args in
     let h = start .pre .0 in
     let l = start .pre .1 in
@@ -64,7 +66,9 @@ returns c =
 
 slice-aggregate-copy : tie.Need-slice-aggregate-copy
 slice-aggregate-copy c =
-    let start = c .before .before .before .before .before .before .before .before .before .before .before .before .before .before .before .before .before .before .before .before .before .before .before .before .before .before .before in
+    let far = c .before .before .before .before .before .before .before .before .before in
+    let farther = far .before .before .before .before .before .before .before .before .before in
+    let start = farther .before .before .before .before .before .before .before .before .before in
     let a = start .args in
     let h = start .pre .0 in
     let l = start .pre .1 in
@@ -72,7 +76,9 @@ slice-aggregate-copy c =
 
 copy-requires : tie.Need-copy-requires
 copy-requires c κs =
-    let start = c .before .before .before .before .before .before .before .before .before .before .before .before .before .before .before .before .before .before .before .before .before .before .before .before .before .before .before .before in
+    let far = c .before .before .before .before .before .before .before .before .before .before in
+    let farther = far .before .before .before .before .before .before .before .before .before in
+    let start = farther .before .before .before .before .before .before .before .before .before in
     let a = start .args in
     let h = start .pre .0 in
     let l = start .pre .1 in
@@ -83,9 +89,11 @@ cast-n c = search needs
 
 slice-reshare-prefix-redo : tie.Need-slice-reshare-prefix-redo
 slice-reshare-prefix-redo c =
-    let at-order2 = c .before .before .before .before .before .before .before .before .before .before .before in
+    let half = c .before .before .before .before .before in
+    let at-order2 = half .before .before .before .before .before .before in
     let at-visit = at-order2 .before .before .before .before .before .before .before in
-    let start = at-visit .before .before .before .before .before .before .before .before .before .before .before .before .before .before .before in
+    let far = at-visit .before .before .before .before .before .before .before .before in
+    let start = far .before .before .before .before .before .before .before in
     let a = start .args in
     let h = start .pre .0 in
     let l = start .pre .1 in
@@ -95,9 +103,11 @@ slice-reshare-prefix-redo c =
 
 slice-aggregate-redo : tie.Need-slice-aggregate-redo
 slice-aggregate-redo c =
-    let at-order2 = c .before .before .before .before .before .before .before .before .before .before .before .before in
+    let half = c .before .before .before .before .before .before in
+    let at-order2 = half .before .before .before .before .before .before in
     let at-visit = at-order2 .before .before .before .before .before .before .before in
-    let start = at-visit .before .before .before .before .before .before .before .before .before .before .before .before .before .before .before in
+    let far = at-visit .before .before .before .before .before .before .before .before in
+    let start = far .before .before .before .before .before .before .before in
     let a = start .args in
     let h = start .pre .0 in
     let l = start .pre .1 in
@@ -130,8 +140,10 @@ same-length-4 c = search needs
 
 same-length-5 : tie.Need-same-length-5
 same-length-5 c =
-    let at-order2 = c .before .before .before .before .before .before .before .before .before .before .before .before .before .before .before .before .before .before .before in
-    let at-order = at-order2 .before .before .before .before .before .before .before .before .before .before .before in
+    let half = c .before .before .before .before .before .before .before .before .before in
+    let at-order2 = half .before .before .before .before .before .before .before .before .before .before in
+    let to-at-order = at-order2 .before .before .before .before .before in
+    let at-order = to-at-order .before .before .before .before .before .before in
     omega (arith, at-order2 .order2 .given, at-order .order .given)
 
 same-length-6 : tie.Need-same-length-6

@@ -47,7 +47,12 @@ same-length-3 : tie.Need-same-length-3
 same-length-3 c = search needs
 
 returns-3 : tie.Need-returns-3
-returns-3 c = array-recovered (c .before .before .before .before .before .before .before .before .before .before .before .before .args .g) (c .before .before .before .before .before .before .before .before .before .before .before .before .args .array .now) _ (c .before .before .before .before .before .before .before .before .before .if1 .left) (c .before .before .before .before .before .before .before .if2 .left) refl (c .before .before .before .recovered .ensures)
+returns-3 c =
+    let at-recovered = c .before .before .before in
+    let at-if2 = at-recovered .before .before .before .before in
+    let at-if1 = at-if2 .before .before in
+    let start = at-if1 .before .before .before in
+    array-recovered (start .args .g) (start .args .array .now) _ (at-if1 .if1 .left) (at-if2 .if2 .left) refl (at-recovered .recovered .ensures)
 
 pub array-report-spec : {M : Type 1} → statement M
 array-report-spec =

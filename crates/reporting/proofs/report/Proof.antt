@@ -61,7 +61,11 @@ number-line-requires-2 c κs = search needs
 returns-2 : tie.Need-returns-2
 returns-2 c =
     let l : length (c .before .before .before .before .before .before .before .before .before .before .before .before .before .before .args .out .now) ≡ 8192 = search (needs, c .before .before .before .before .before .before .before .before .before .before .before .before .before .before .good) in
-    at-front _ (second-lost _ _ _ (line-found _ _ _ (c .before .before .before .before .before .before .before .before .before .before .before .line .ensures .0) _ _ (c .before .before .before .before .before .before .before .before .before .blocks2 .given .1)) (line-lost _ _ _ (c .before .before .before .before .before .line2 .ensures .0) (c .before .before .before .enum-told2 .given .1))) (c .number-line2 .ensures) answer-fits l
+    let at-enum-told2 = c .before .before .before in
+    let at-line2 = at-enum-told2 .before .before in
+    let at-blocks2 = at-line2 .before .before .before .before in
+    let at-line = at-blocks2 .before .before in
+    at-front _ (second-lost _ _ _ (line-found _ _ _ (at-line .line .ensures .0) _ _ (at-blocks2 .blocks2 .given .1)) (line-lost _ _ _ (at-line2 .line2 .ensures .0) (at-enum-told2 .enum-told2 .given .1))) (c .number-line2 .ensures) answer-fits l
 
 sub-third : tie.Need-sub-third
 sub-third c = line-within _ _ _ _ (c .before .before .before .line2 .ensures .1) (c .before .pages .given .1)
@@ -93,7 +97,13 @@ number-line-requires-3 c κs = search needs
 returns-3 : tie.Need-returns-3
 returns-3 c =
     let l : length (c .before .before .before .before .before .before .before .before .before .before .before .before .before .before .before .before .before .before .before .before .args .out .now) ≡ 8192 = search (needs, c .before .before .before .before .before .before .before .before .before .before .before .before .before .before .before .before .before .before .before .before .good) in
-    at-front _ (third-lost _ _ _ (line-found _ _ _ (c .before .before .before .before .before .before .before .before .before .before .before .before .before .before .before .before .before .line .ensures .0) _ _ (c .before .before .before .before .before .before .before .before .before .before .before .before .before .before .before .blocks2 .given .1)) _ _ (line-found _ _ _ (c .before .before .before .before .before .before .before .before .before .before .before .line2 .ensures .0) _ _ (c .before .before .before .before .before .before .before .before .before .pages .given .1)) (line-lost _ _ _ (c .before .before .before .before .before .line3 .ensures .0) (c .before .before .before .enum-told3 .given .1))) (c .number-line3 .ensures) answer-fits l
+    let at-enum-told3 = c .before .before .before in
+    let at-line3 = at-enum-told3 .before .before in
+    let at-pages = at-line3 .before .before .before .before in
+    let at-line2 = at-pages .before .before in
+    let at-blocks2 = at-line2 .before .before .before .before in
+    let at-line = at-blocks2 .before .before in
+    at-front _ (third-lost _ _ _ (line-found _ _ _ (at-line .line .ensures .0) _ _ (at-blocks2 .blocks2 .given .1)) _ _ (line-found _ _ _ (at-line2 .line2 .ensures .0) _ _ (at-pages .pages .given .1)) (line-lost _ _ _ (at-line3 .line3 .ensures .0) (at-enum-told3 .enum-told3 .given .1))) (c .number-line3 .ensures) answer-fits l
 
 sub-array : tie.Need-sub-array
 sub-array c = line-within _ _ _ _ (c .before .before .before .line3 .ensures .1) (c .before .logical .given .1)
@@ -110,7 +120,13 @@ array-report-requires c κs = search needs
 returns-4 : tie.Need-returns-4
 returns-4 c =
     let l : length (c .before .before .before .before .before .before .before .before .before .before .before .before .before .before .before .before .before .before .before .before .before .args .out .now) ≡ 8192 = search (needs, c .before .before .before .before .before .before .before .before .before .before .before .before .before .before .before .before .before .before .before .before .before .good) in
-    at-front _ (all-found _ _ _ (line-found _ _ _ (c .before .before .before .before .before .before .before .before .before .before .before .before .before .before .before .before .before .before .line .ensures .0) _ _ (c .before .before .before .before .before .before .before .before .before .before .before .before .before .before .before .before .blocks2 .given .1)) _ _ (line-found _ _ _ (c .before .before .before .before .before .before .before .before .before .before .before .before .line2 .ensures .0) _ _ (c .before .before .before .before .before .before .before .before .before .before .pages .given .1)) _ _ (line-found _ _ _ (c .before .before .before .before .before .before .line3 .ensures .0) _ _ (c .before .before .before .before .logical .given .1))) (c .array-report .ensures) (le-refl 8192) l
+    let at-logical = c .before .before .before .before in
+    let at-line3 = at-logical .before .before in
+    let at-pages = at-line3 .before .before .before .before in
+    let at-line2 = at-pages .before .before in
+    let at-blocks2 = at-line2 .before .before .before .before in
+    let at-line = at-blocks2 .before .before in
+    at-front _ (all-found _ _ _ (line-found _ _ _ (at-line .line .ensures .0) _ _ (at-blocks2 .blocks2 .given .1)) _ _ (line-found _ _ _ (at-line2 .line2 .ensures .0) _ _ (at-pages .pages .given .1)) _ _ (line-found _ _ _ (at-line3 .line3 .ensures .0) _ _ (at-logical .logical .given .1))) (c .array-report .ensures) (le-refl 8192) l
 
 pub report-spec : {M : Type 1} → statement M
 report-spec =

@@ -46,11 +46,12 @@ same-length c = search needs
 
 returns-2 : tie.Need-returns-2
 returns-2 c =
-    let r = c .before .before .before .before .before .before .before .before .before .before .before in
+    let at-put = c .before .before .before .before .before .before .before in
+    let r = at-put .before .before .before .before in
     let map = map-recovered _ _ _ _ _ _ _ _ _ _ (r .recover .ensures) (r .before .before .before .geometry .ensures) (r .before .before .before .before .blank .ensures) refl refl in
     let i = r .before .before .before .before .before in
     rw (not-false (i .before .before .before .args .cut) (i .if1 .left))
-    (put-within (put-is (ap (λ (m : List ℕ). 32 ∷ listed 0 m) map) (puts (c .before .before .before .before .before .before .before .put .ensures) (c .before .before .put-entries .ensures))) (omega arith))
+    (put-within (put-is (ap (λ (m : List ℕ). 32 ∷ listed 0 m) map) (puts (at-put .put .ensures) (c .before .before .put-entries .ensures))) (omega arith))
 
 pub put-cut-spec : {M : Type 1} → statement M
 put-cut-spec =

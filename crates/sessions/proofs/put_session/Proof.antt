@@ -66,7 +66,8 @@ same-length c = search needs
 returns : tie.Need-returns
 unfolding fresh lentFor
 returns c =
-    let p = c .before .before .before .before .before .before .before .before .before .before .before .before .before .before .before in
+    let to-p = c .before .before .before .before .before .before .before in
+    let p = to-p .before .before .before .before .before .before .before .before in
     let s = p .before .before .before in
     let f = s .before .before .before in
     let a = f .before .before .before .before .before in
@@ -89,14 +90,16 @@ put-requires c κs =
 
 same-length-2 : tie.Need-same-length-2
 same-length-2 c =
-    let t = c .before .before .before .before .before .before .before .before .before .before .before .before in
+    let to-t = c .before .before .before .before .before .before in
+    let t = to-t .before .before .before .before .before .before in
     let p = t .before .before .before .before .before .before .before .before in
     c .before .before .put .ensures .same ∙ t .turns .ensures .1 .same ∙ p .put-list .ensures .same
 
 returns-2 : tie.Need-returns-2
 unfolding fresh lentFor
 returns-2 c =
-    let t = c .before .before .before .before .before .before .before .before .before .before .before .before in
+    let to-t = c .before .before .before .before .before .before in
+    let t = to-t .before .before .before .before .before .before in
     let p = t .before .before .before .before .before .before .before .before in
     let s = p .before .before .before in
     let f = s .before .before .before in

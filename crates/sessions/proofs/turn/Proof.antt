@@ -43,7 +43,8 @@ returns c =
 
 put-cut-requires-2 : tie.Need-put-cut-requires-2
 put-cut-requires-2 c κs =
-    let p = c .before .before .before .before .before .before .before .before .before .before .before .before .before .before .before .before .before .before in
+    let half = c .before .before .before .before .before .before .before .before .before in
+    let p = half .before .before .before .before .before .before .before .before .before in
     let a = p .before .before .before .before .before .before .before .before .before .before in
     omega (arith, p .put-cut .ensures .far, p .put-cut .ensures .same, a .pre .1)
 

@@ -33,51 +33,63 @@ turn-requires c κs =
 
 same-length : tie.Need-same-length Inv-loop μ-loop
 same-length c =
-    let u = c .before .before .before .before .before .before .before .before .before .before .before in
+    let at-out = c .before .before .before .before .before .before .before .before .before .before in
+    let u = at-out .before in
     let l = u .before .before .before .before .before .before .before .loop in
-    c .before .before .before .before .before .before .before .before .before .before .out .given ∙ l .inv .0 .put .same
+    at-out .out .given ∙ l .inv .0 .put .same
 
 same-length-2 : tie.Need-same-length-2 Inv-loop μ-loop
 same-length-2 c =
-    let u = c .before .before .before .before .before .before .before .before .before .before .before in
+    let at-array = c .before .before .before .before .before .before .before .before in
+    let u = at-array .before .before .before in
     let l = u .before .before .before .before .before .before .before .loop in
-    c .before .before .before .before .before .before .before .before .array .given ∙ l .inv .1 .0
+    at-array .array .given ∙ l .inv .1 .0
 
 same-length-3 : tie.Need-same-length-3 Inv-loop μ-loop
 same-length-3 c =
-    let u = c .before .before .before .before .before .before .before .before .before .before .before in
+    let at-map = c .before .before .before .before .before .before in
+    let u = at-map .before .before .before .before .before in
     let l = u .before .before .before .before .before .before .before .loop in
-    c .before .before .before .before .before .before .map .given ∙ l .inv .1 .1 .0
+    at-map .map .given ∙ l .inv .1 .1 .0
 
 same-length-4 : tie.Need-same-length-4 Inv-loop μ-loop
 same-length-4 c =
-    let u = c .before .before .before .before .before .before .before .before .before .before .before in
+    let at-hold = c .before .before .before .before in
+    let u = at-hold .before .before .before .before .before .before .before in
     let l = u .before .before .before .before .before .before .before .loop in
-    c .before .before .before .before .hold .given ∙ l .inv .1 .1 .1
+    at-hold .hold .given ∙ l .inv .1 .1 .1
 
 returns : tie.Need-returns Inv-loop μ-loop
 returns c =
-    let u = c .before .before .before .before .before .before .before .before .before .before .before in
+    let half = c .before .before .before .before .before in
+    let u = half .before .before .before .before .before .before in
     let l = u .before .before .before .before .before .before .before in
     let a = l .before .before .before .before .before .before in
     going-refused _ _ _ _ (l .loop .i) _ _ (l .loop .end) (l .loop .inv .0) _ _ (u .turn .result) (u .before .before .before .before .before .before .loop-test .taken) (u .turn .ensures) (not-true _ (c .if1 .taken)) (omega (arith, a .pre .1))
 
 add-i : tie.Need-add-i Inv-loop μ-loop
 add-i c =
-    let l = c .before .before .before .before .before .before .before .before .before .before .before .before .before .before .before .before .before in
+    let half = c .before .before .before .before .before .before .before .before in
+    let l = half .before .before .before .before .before .before .before .before .before in
     let a = l .before .before .before .before .before .before .before in
     search (needs, a .good, l .loop-test .taken)
 
 loop-less : tie.Need-loop-less Inv-loop μ-loop
-loop-less c = let t = c .before .before .before .before .before .before .before .before .before .before .before .before .before .before .before .before .before .loop-test .taken in omega (arith, t)
+loop-less c =
+    let to-at-loop-test = c .before .before .before .before .before .before .before .before in
+    let at-loop-test = to-at-loop-test .before .before .before .before .before .before .before .before .before in
+    let t = at-loop-test .loop-test .taken in omega (arith, t)
 
 loop-again : tie.Need-loop-again Inv-loop μ-loop
 loop-again c =
-    let u = c .before .before .before .before .before .before .before .before .before .before .before in
+    let at-hold = c .before .before .before .before in
+    let at-map = at-hold .before .before in
+    let at-array = at-map .before .before in
+    let u = at-array .before .before .before in
     let l = u .before .before .before .before .before .before .before in
     let a = l .before .before .before .before .before .before in (
       going-again _ _ _ _ (l .loop .i) _ _ (l .loop .end) (l .loop .inv .0) _ _ (u .turn .result) (u .before .before .before .before .before .before .loop-test .taken) (u .turn .ensures) (not-false _ (c .if1 .left)),
-      (c .before .before .before .before .before .before .before .before .array .given ∙ l .loop .inv .1 .0, (c .before .before .before .before .before .before .map .given ∙ l .loop .inv .1 .1 .0, c .before .before .before .before .hold .given ∙ l .loop .inv .1 .1 .1)),
+      (at-array .array .given ∙ l .loop .inv .1 .0, (at-map .map .given ∙ l .loop .inv .1 .1 .0, at-hold .hold .given ∙ l .loop .inv .1 .1 .1)),
     )
 
 same-length-5 : tie.Need-same-length-5 Inv-loop μ-loop

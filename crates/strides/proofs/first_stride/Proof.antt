@@ -38,10 +38,13 @@ same-length c = search needs
 
 returns : tie.Need-returns
 returns c =
-    let s = c .before .before .before .before .before .before .before .before .before .before .before .before .before in
-    let u = c .before .before .before .before .before .before .used-in .ensures .0 in
-    let m = c .before .before .before .before .before .map-pages .ensures in
-    first-others (s .args .s) (s .args .array .now) (s .args .map .now) _ _ _ _ (rw (← u, ← m) (c .before .before .before .before .if1 .taken)) (c .before .before .other-stride .ensures)
+    let at-if1 = c .before .before .before .before in
+    let at-map-pages = at-if1 .before in
+    let at-used-in = at-map-pages .before in
+    let s = at-used-in .before .before .before .before .before .before .before in
+    let u = at-used-in .used-in .ensures .0 in
+    let m = at-map-pages .map-pages .ensures in
+    first-others (s .args .s) (s .args .array .now) (s .args .map .now) _ _ _ _ (rw (← u, ← m) (at-if1 .if1 .taken)) (c .before .before .other-stride .ensures)
 
 page-stride-requires : tie.Need-page-stride-requires
 page-stride-requires c κs =
@@ -54,10 +57,13 @@ same-length-2 c = search needs
 
 returns-2 : tie.Need-returns-2
 returns-2 c =
-    let s = c .before .before .before .before .before .before .before .before .before .before .before .before .before in
-    let u = c .before .before .before .before .before .before .used-in .ensures .0 in
-    let m = c .before .before .before .before .before .map-pages .ensures in
-    first-pages (s .args .s) (s .args .array .now) (s .args .map .now) _ _ _ _ (rw (← u, ← m) (c .before .before .before .before .if1 .left)) (rw (← u) (c .before .before .page-stride .ensures))
+    let at-if1 = c .before .before .before .before in
+    let at-map-pages = at-if1 .before in
+    let at-used-in = at-map-pages .before in
+    let s = at-used-in .before .before .before .before .before .before .before in
+    let u = at-used-in .used-in .ensures .0 in
+    let m = at-map-pages .map-pages .ensures in
+    first-pages (s .args .s) (s .args .array .now) (s .args .map .now) _ _ _ _ (rw (← u, ← m) (at-if1 .if1 .left)) (rw (← u) (c .before .before .page-stride .ensures))
 
 pub first-stride-spec : {M : Type 1} → statement M
 first-stride-spec =

@@ -50,19 +50,22 @@ program-at-requires c κs =
 
 cast-with-work : tie.Need-cast-with-work
 cast-with-work c =
-    let s = c .before .before .before .before .before .before .before .before .before .before .before .before in
+    let half = c .before .before .before .before .before .before in
+    let s = half .before .before .before .before .before .before in
     let h = page-inside _ _ _ _ _ (s .pre .0) in
     omega arith
 
 add-t12 : tie.Need-add-t12
 add-t12 c =
-    let s = c .before .before .before .before .before .before .before .before .before .before .before .before in
+    let half = c .before .before .before .before .before .before in
+    let s = half .before .before .before .before .before .before in
     let h = page-inside _ _ _ _ _ (s .pre .0) in
     omega arith
 
 cast-t22 : tie.Need-cast-t22
 cast-t22 c =
-    let s = c .before .before .before .before .before .before .before .before .before .before .before .before in
+    let half = c .before .before .before .before .before .before in
+    let s = half .before .before .before .before .before .before in
     let h = page-inside _ _ _ _ _ (s .pre .0) in
     omega arith
 
@@ -74,8 +77,11 @@ same-length c = search needs
 
 returns : tie.Need-returns
 returns c =
-    let s = c .before .before .before .before .before .before .before .before .before .before .before .before .before in
-    map-strode (s .args .s) (s .args .array .now) (s .args .map .now) (s .args .q) (s .args .i) (s .pre .0 .blank) _ _ _ (c .before .before .before .program-at .ensures) _ refl (c .before .before .before .before .before .before .before .before .before .before .map-data .ensures) (c .before .before .before .before .before .before .before .before .map-spare .ensures) _ (c .with-work .ensures)
+    let at-program-at = c .before .before .before in
+    let at-map-spare = at-program-at .before .before .before .before .before in
+    let at-map-data = at-map-spare .before .before in
+    let s = at-map-data .before .before .before in
+    map-strode (s .args .s) (s .args .array .now) (s .args .map .now) (s .args .q) (s .args .i) (s .pre .0 .blank) _ _ _ (at-program-at .program-at .ensures) _ refl (at-map-data .map-data .ensures) (at-map-spare .map-spare .ensures) _ (c .with-work .ensures)
 
 pub map-stride-spec : {M : Type 1} → statement M
 map-stride-spec =

@@ -33,19 +33,22 @@ cast-k-2 c = search needs
 
 mul-k : tie.Need-mul-k
 mul-k c =
-    let s = c .before .before .before .before .before .before .before .before .before .before .before .before .before in
+    let half = c .before .before .before .before .before .before in
+    let s = half .before .before .before .before .before .before .before in
     let h = page-inside _ _ _ _ _ (s .pre) in
     omega arith
 
 add-k : tie.Need-add-k
 add-k c =
-    let s = c .before .before .before .before .before .before .before .before .before .before .before .before .before in
+    let half = c .before .before .before .before .before .before in
+    let s = half .before .before .before .before .before .before .before in
     let h = page-inside _ _ _ _ _ (s .pre) in
     omega arith
 
 add-k-2 : tie.Need-add-k-2
 add-k-2 c =
-    let s = c .before .before .before .before .before .before .before .before .before .before .before .before .before in
+    let half = c .before .before .before .before .before .before in
+    let s = half .before .before .before .before .before .before .before in
     let h = page-inside _ _ _ _ _ (s .pre) in
     omega arith
 
@@ -54,7 +57,8 @@ slice-aggregate-program-at c = search needs
 
 program-at-requires : tie.Need-program-at-requires
 program-at-requires c κs =
-    let s = c .before .before .before .before .before .before .before .before .before .before .before .before .before .before .before in
+    let half = c .before .before .before .before .before .before .before in
+    let s = half .before .before .before .before .before .before .before .before in
     (page-inside _ _ _ _ _ (s .pre) .fits, sym (slice-aggregate-program-at c))
 
 with-work-requires : tie.Need-with-work-requires
@@ -71,8 +75,13 @@ same-length c = search needs
 
 returns : tie.Need-returns
 returns c =
-    let s = c .before .before .before .before .before .before .before .before .before .before .before .before .before .before .before .before .before .before .before .before .before in
-    zone-strode (s .args .s) (s .args .array .now) (s .args .map .now) (s .args .q) (s .args .i) (s .pre .blank) _ _ _ (c .before .before .before .before .before .program-at .ensures) _ refl _ (c .before .before .before .before .before .before .before .before .before .before .before .before .before .before .slide .ensures) (c .before .before .before .before .before .before .before .before .before .before .before .before .zone-data .ensures) _ (c .before .before .before .before .before .before .before .before .before .before .before .map-pages .ensures) (c .before .before .before .before .before .before .before .before .before .before .zone-spare .ensures) _ _ _ (c .before .before .with-work .ensures) (c .before .with-zones .ensures) (c .with-number .ensures)
+    let at-program-at = c .before .before .before .before .before in
+    let at-zone-spare = at-program-at .before .before .before .before .before in
+    let at-map-pages = at-zone-spare .before in
+    let at-zone-data = at-map-pages .before in
+    let at-slide = at-zone-data .before .before in
+    let s = at-slide .before .before .before .before .before .before .before in
+    zone-strode (s .args .s) (s .args .array .now) (s .args .map .now) (s .args .q) (s .args .i) (s .pre .blank) _ _ _ (at-program-at .program-at .ensures) _ refl _ (at-slide .slide .ensures) (at-zone-data .zone-data .ensures) _ (at-map-pages .map-pages .ensures) (at-zone-spare .zone-spare .ensures) _ _ _ (c .before .before .with-work .ensures) (c .before .with-zones .ensures) (c .with-number .ensures)
 
 pub zone-stride-spec : {M : Type 1} → statement M
 zone-stride-spec =

@@ -61,11 +61,15 @@ same-length-4 c = search needs
 returns-2 : tie.Need-returns-2
 unfolding gone
 returns-2 c =
-    let at = c .before .before .before .before .before .before .before .before .before .before .before in
+    let at-write-in = c .before .before .before .before in
+    let at-place-of = at-write-in .before .before .before .before in
+    let at-if1 = at-place-of .before .before in
+    let at-place = at-if1 .before in
+    let at = at-place in
     let a = at .before .before .before .before .before .before .args in
     let w : World = record { array = a .array .now; map = a .map .now; hold = a .hold .now; state = a .s } in
-    carries w (dropPage (a .id) (a .lpn)) _ (at .drop-refusal .ensures) (c .before .before .before .before .before .before .before .before .before .before .if1 .left) _
-    (rw (c .before .before .before .before .before .before .before .before .place-of .ensures) at (c .before .before .before .before .write-in .ensures))
+    carries w (dropPage (a .id) (a .lpn)) _ (at .drop-refusal .ensures) (at-if1 .if1 .left) _
+    (rw (at-place-of .place-of .ensures) at (at-write-in .write-in .ensures))
 
 pub drop-spec : {M : Type 1} → statement M
 drop-spec =
