@@ -12,7 +12,7 @@ use Rattle.model.specs.Recover.{entriesAt, zonesAt, recoveredState, recoverPlan
 use Rattle.model.specs.World.{World, Op, none, Plan, refuse}
 use Rattle.model.specs.Order.{Check, leaveOut, checked}
 use Rattle.model.specs.Frame.{freePlace, noPlace, lentOk, frameOk, freshState}
-use Rattle.model.specs.Transactions.{withPlace, withVersion, withLast, nextPage, taking, begun, planBegin, written, heldState, writePlan, holds, beginChecks, writeChecks, dropChecks, loneChecks, commitChecks, abortChecks}
+use Rattle.model.specs.Transactions.{withPlace, withVersion, withLast, nextPage, taking, begun, planBegin, written, heldState, writePlan, hasHeld, beginChecks, writeChecks, dropChecks, loneChecks, commitChecks, abortChecks}
 use Rattle.model.specs.Transactions.{planWrite, gone, planDrop, lonePlan, planLone, markPlan, forgetPlan, planCommit, planAbort, readAnswer}
 use Rattle.model.specs.Strides.{withWork, withZones, withNumber, mapStride, zoneStride, pageStride, otherStride, firstStride, checkpointStride, blockTaken, copiesDue, noGain, checkpointChecks, reclaimChecks, formatChecks}
 use Rattle.model.specs.Strides.{planCheckpoint, picked, copyStride, freeStride, reclaimStride, planReclaim, stridesDone, formatMore}
@@ -161,7 +161,7 @@ module _ (w : World) (h : Shaped (w .state)) where
 
   leaves-commit : (id : ℕ) → Leaves (planCommit id w)
   unfolding planCommit numbered all Unless
-  leaves-commit id = leaves-checks _ (commitChecks id w) refl (λ f i a b c. leaves-cond (holds id w) (leaves-mark _ _) (leaves-forget _))
+  leaves-commit id = leaves-checks _ (commitChecks id w) refl (λ f i a b c. leaves-cond (hasHeld id w) (leaves-mark _ _) (leaves-forget _))
 
   leaves-abort : (id : ℕ) → Leaves (planAbort id w)
   unfolding planAbort numbered all Unless

@@ -6,7 +6,7 @@ use mathlib.Core.Bool.{Bool, true, false, false≢true, not, cond, _&&_, _||_}
 use mathlib.Core.List.{List}
 use lib.ListN.{length, getD, replicate, length-replicate}
 use lib.Dec.{leb, ltb, eqb}
-use borrow.Author.Tests.{leb-true, le-leb, lt-leb, lt-ltb, le-ltb, eq-eqb, eqb-true}
+use borrow.Author.Tests.{leb-true, le-leb, lt-leb, lt-ltb, le-ltb, eq-eqb, eqb-true, not-true}
 use native.Mathlib.Omega.{arith}
 use Rattle.model.specs.Lists.{find, those}
 use Rattle.model.specs.Geometry.{unmapped, geometryOk, lengthsOk, mapPages}
@@ -16,12 +16,13 @@ use Rattle.model.specs.Recovery.{pagesGood}
 use Rattle.model.specs.World.{World, none, Plan, refuse}
 use Rattle.model.specs.Order.{firstOf, leaveOut}
 use Rattle.model.specs.Frame.{noPlace, badId, lentOk, frameOk, isIdle, gate, freshState}
-use Rattle.model.specs.Transactions.{withPlace, placeOf, zoneShort, cleanPages, spent, begun, liveId, longestChange, writePlan, holds, dropChecks, commitChecks, abortChecks, gone, lonePlan, markPlan, forgetPlan, planBegin, planWrite, planDrop, planLone, planCommit, planAbort, readAnswer}
+use Rattle.model.specs.Transactions.{withPlace, placeOf, zoneShort, cleanPages, spent, begun, liveId, longestChange, writePlan, hasHeld, dropChecks, commitChecks, abortChecks, gone, lonePlan, markPlan, forgetPlan, planBegin, planWrite, planDrop, planLone, planCommit, planAbort, readAnswer}
 use Rattle.model.specs.Strides.{isCheckpoint, withWork, withZones, withNumber, mapStride, zoneStride, pageStride, otherStride, firstStride, checkpointStride, planCheckpoint, mappedIn, picked, lowestFrom, isReclaim, copyStride, freeStride, reclaimStride, planReclaim, stridesDone, formatWorkOk, formatMore, formatStride, planFormat}
 use Rattle.model.specs.Recover.{entriesAt, zonesAt, scannedAt, planRecover}
-use Rattle.model.specs.Commands.{format, recover, begin, write, dropPage, lone, commit, abort, read, checkpoint, reclaim, plan}
+use Rattle.model.specs.Commands.{format, recover, begin, write, dropPage, lone, commit, abort, read, checkpoint, reclaim, plan, Call}
 use Rattle.model.specs.declared.Geometry.{Geometry}
 use Rattle.model.specs.declared.Place.{Place}
+use Rattle.model.specs.declared.Work.{Work}
 
 -- ---- 1 first, then 17
 -- whatever is under way, and for every command but format and recover
@@ -33,10 +34,63 @@ pub busy-next : (w : World) → frameOk w ≡ true → isIdle (w .state .work) �
 unfolding gate firstOf
 busy-next w f i = rw (f, i) refl
 
--- and is then the answer, as of begin
-pub begin-17 : (w : World) (id : ℕ) → frameOk w ≡ true → isIdle (w .state .work) ≡ false → plan (begin id) w ≡ refuse w 17
-unfolding plan planBegin firstOf
-begin-17 w id f i = rw (f, i) refl
+-- the commands that are refused with 1 for the state too
+abbrev takesState : Call → Bool
+takesState (format g) = false
+takesState (recover g) = false
+takesState (begin id) = true
+takesState (write id lpn d) = true
+takesState (dropPage id lpn) = true
+takesState (lone lpn d) = true
+takesState (commit id) = true
+takesState (abort id) = true
+takesState (read lpn) = true
+takesState checkpoint = true
+takesState reclaim = true
+
+-- each of them, whatever else is wrong
+pub frame-first : (c : Call) (w : World) → takesState c ≡ true → frameOk w ≡ false → plan c w ≡ refuse w 1
+unfolding plan planBegin planWrite planDrop planLone planCommit planAbort readAnswer planCheckpoint planReclaim firstOf leaveOut those
+frame-first (format g) w t f = absurd (false≢true t)
+frame-first (recover g) w t f = absurd (false≢true t)
+frame-first (begin id) w t f = rw f refl
+frame-first (write id lpn d) w t f = rw f refl
+frame-first (dropPage id lpn) w t f = rw f refl
+frame-first (lone lpn d) w t f = rw f refl
+frame-first (commit id) w t f = rw f refl
+frame-first (abort id) w t f = rw f refl
+frame-first (read lpn) w t f = rw f refl
+frame-first checkpoint w t f = rw f refl
+frame-first reclaim w t f = rw f refl
+
+-- what another's work under way refuses: every one but read, "format, recover or the command's own next stride"
+abbrev waitsFor : Call → Work → Bool
+waitsFor (format g) k = false
+waitsFor (recover g) k = false
+waitsFor (begin id) k = true
+waitsFor (write id lpn d) k = true
+waitsFor (dropPage id lpn) k = true
+waitsFor (lone lpn d) k = true
+waitsFor (commit id) k = true
+waitsFor (abort id) k = true
+waitsFor (read lpn) k = false
+waitsFor checkpoint k = not (isCheckpoint k)
+waitsFor reclaim k = not (isReclaim k)
+
+-- behind 1 it is the next, whatever else is wrong
+pub busy-17 : (c : Call) (w : World) → frameOk w ≡ true → isIdle (w .state .work) ≡ false → waitsFor c (w .state .work) ≡ true → plan c w ≡ refuse w 17
+unfolding plan planBegin planWrite planDrop planLone planCommit planAbort planCheckpoint planReclaim firstOf leaveOut those
+busy-17 (format g) w f i t = absurd (false≢true t)
+busy-17 (recover g) w f i t = absurd (false≢true t)
+busy-17 (begin id) w f i t = rw (f, i) refl
+busy-17 (write id lpn d) w f i t = rw (f, i) refl
+busy-17 (dropPage id lpn) w f i t = rw (f, i) refl
+busy-17 (lone lpn d) w f i t = rw (f, i) refl
+busy-17 (commit id) w f i t = rw (f, i) refl
+busy-17 (abort id) w f i t = rw (f, i) refl
+busy-17 (read lpn) w f i t = absurd (false≢true t)
+busy-17 checkpoint w f i t = rw (f, i, not-true (isCheckpoint (w .state .work)) t) refl
+busy-17 reclaim w f i t = rw (f, i, not-true (isReclaim (w .state .work)) t) refl
 
 -- "not for read .. or the command's own next stride"
 pub own-passes : (w : World) → frameOk w ≡ true → gate true w ≡ 0
@@ -297,7 +351,7 @@ either-hold h false p q x y = y
 
 pub commit-hold : (id : ℕ) (w : World) → plan (commit id) w .hold ≡ w .hold
 unfolding plan planCommit forgetPlan markPlan
-commit-hold id w = either-hold _ (eqb (firstOf (commitChecks id w)) 0) _ _ (either-hold _ (holds id w) _ _ refl refl) refl
+commit-hold id w = either-hold _ (eqb (firstOf (commitChecks id w)) 0) _ _ (either-hold _ (hasHeld id w) _ _ refl refl) refl
 
 pub abort-hold : (id : ℕ) (w : World) → plan (abort id) w .hold ≡ w .hold
 unfolding plan planAbort forgetPlan

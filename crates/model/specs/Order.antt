@@ -1,4 +1,5 @@
--- "Order": a command's refusals as a list, in the order in which document 01 names them, and the first that applies.
+-- "Order": a command's refusals as a list, in the order in which document 01 (docs/PAPERS.md) names them, and the first that
+-- applies.
 use Prim.Native.Nat.{ℕ}
 use mathlib.Core.Bool.{Bool, not, cond}
 use mathlib.Core.List.{List, [], _∷_}

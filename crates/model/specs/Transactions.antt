@@ -1,5 +1,5 @@
 -- The commands of an open change: begin, write, drop, lone write, commit, abort, read. Each has its checks in the order of document 01's
--- paragraph "Order", and says what it plans on what it is handed where none of them applies.
+-- paragraph "Order" (docs/PAPERS.md), and says what it plans on what it is handed where none of them applies.
 use Prim.Native.Nat.{ℕ, zero, suc, _+_, _-_, _*_, _/_}
 use mathlib.Core.Bool.{Bool, true, false, not, cond, _&&_, _||_}
 use mathlib.Core.List.{List, [], _∷_}
@@ -26,8 +26,8 @@ abbrev pub placeWith : ℕ → World → Place
 placeWith id w = getD (w .state .places) (placeOf (w .state .places) id) noPlace
 
 -- "with a held page"
-abbrev pub holds : ℕ → World → Bool
-holds id w = not (eqb (placeWith id w .count) 0)
+abbrev pub hasHeld : ℕ → World → Bool
+hasHeld id w = not (eqb (placeWith id w .count) 0)
 
 -- the state with another place i
 unfoldable pub withPlace : State → ℕ → Place → State
@@ -239,7 +239,7 @@ addPlan id lpn drop d w = writePlan (placeOf (w .state .places) id) (placeWith i
 -- "Write 11, 5, 8, 10, 12"
 abbrev pub writeChecks : ℕ → ℕ → List ℕ → World → List Check
 writeChecks id lpn d w =
-    badFrame w ∷ busy false w ∷ badLength d ∷ badLogicalPage lpn w ∷ notBegun id w ∷ tooLong id w ∷ shortZone (holds id w) w ∷ []
+    badFrame w ∷ busy false w ∷ badLength d ∷ badLogicalPage lpn w ∷ notBegun id w ∷ tooLong id w ∷ shortZone (hasHeld id w) w ∷ []
 
 -- write
 unfoldable pub planWrite : ℕ → ℕ → List ℕ → World → Plan
@@ -312,13 +312,13 @@ forgetPlan i w = record { answer = 0; op = none; map = w .map; hold = w .hold; s
 -- "Commit 8, 13, 12, the last two only with a held page"
 abbrev pub commitChecks : ℕ → World → List Check
 commitChecks id w =
-    badFrame w ∷ busy false w ∷ notBegun id w ∷ versionsSpent (holds id w) (w .state .version) 1 ∷ shortZone (holds id w) w ∷ []
+    badFrame w ∷ busy false w ∷ notBegun id w ∷ versionsSpent (hasHeld id w) (w .state .version) 1 ∷ shortZone (hasHeld id w) w ∷ []
 
 -- what a commit does
 abbrev pub commitPlan : ℕ → World → Plan
 commitPlan id w =
     let i = placeOf (w .state .places) id in
-    cond (holds id w) (markPlan i (placeWith id w) w) (forgetPlan i w)
+    cond (hasHeld id w) (markPlan i (placeWith id w) w) (forgetPlan i w)
 
 -- commit
 unfoldable pub planCommit : ℕ → World → Plan

@@ -30,7 +30,7 @@ use Rattle.model.specs.declared.Plane.the-variants.{Neither}
 use Rattle.model.specs.declared.Work.the-variants.{Idle, Format, Checkpoint, Reclaim}
 use Rattle.examples.specs.Unfolded.{go, told}
 use Rattle.examples.specs.Rules.{small}
-use Rattle.examples.specs.Orders.{begin-6 as begin-6-law, begin-7 as begin-7-law, begin-9 as begin-9-law, begin-17, write-5, write-8, write-11, read-14, read-0, reclaim-none, recover-1, format-1}
+use Rattle.examples.specs.Orders.{begin-6 as begin-6-law, begin-7 as begin-7-law, begin-9 as begin-9-law, busy-17, write-5, write-8, write-11, read-14, read-0, reclaim-none, recover-1, format-1}
 use Rattle.runs.specs.Paged.{flat, Sized, page-flat, sized-take, sized-append, sized-replicate, usedOn, cleanOn, nextOn, takenOn, entryOn, wholeOn, scanOn, isOn, mapsOn, completeOn, newerOn, newestOn, fullOn, slideOn}
 use Rattle.runs.specs.Devices.{Device, world, device, still, lentOn, frameOn, workOn, format-erases, format-maps, format-ends, format-ready, format-first, format-more, format-finished, refused-stays, passes, framed, reads-part, lent-on, live-on, begins, begin-op, lone-op, lone-writes, first-write, next-write, first-drop, next-drop, commit-op, commits, aborts, checkpoint-begins, checkpoint-ends, reclaim-copies, reclaim-erases, reclaim-op, reclaim-shape, loadOn, recovers, idle-told, idle-left, page-told, page-left, block-told, block-left, answered, cut-short, recovered, turned-down, joined}
 
@@ -681,7 +681,7 @@ checkpoint-1 = checkpoint-begins w15 refl refl refl 2 map2 refl refl refl refl r
 
 begin-busy : exec (begin 9) (world w16) ≡ record { answer = 17; world = world w16 }
 unfolding paged
-begin-busy = refused-stays (begin 9) (world w16) 17 (begin-17 (world w16) 9 (framed w16 refl refl) refl)
+begin-busy = refused-stays (begin 9) (world w16) 17 (busy-17 (begin 9) (world w16) (framed w16 refl refl) refl refl)
 
 checkpoint-2 : exec checkpoint (world w16) ≡ record { answer = 0; world = world w17 }
 unfolding paged zone2 p16 p17 p18 p19 p20 p21 p22 p23

@@ -17,7 +17,7 @@ use Rattle.model.specs.Zones.{Entry, entryOf}
 use Rattle.model.specs.Recovery.{ofId}
 use Rattle.model.specs.World.{World, Plan, applyOp}
 use Rattle.model.specs.Frame.{freePlace, noPlace, badId, isIdle}
-use Rattle.model.specs.Transactions.{placeOf, withPlace, withVersion, cleanPages, nextPage, zoneShort, spent, pageKind, changeBytes, heldAt, placeWith, holds, commitPlan, commitChecks}
+use Rattle.model.specs.Transactions.{placeOf, withPlace, withVersion, cleanPages, nextPage, zoneShort, spent, pageKind, changeBytes, heldAt, placeWith, hasHeld, commitPlan, commitChecks}
 use Rattle.model.specs.Transactions.{heldPage, heldDrop, entered, markPlan, forgetPlan, planCommit, withLast, numberOf}
 use Rattle.model.specs.Commands.{commit, plan, carried}
 use Rattle.model.specs.Book.{Book, Write, entering, changing, writesOf, close, enterAll}
@@ -61,7 +61,7 @@ unfolding planCommit numbered all Unless
 commit-view id w =
     let p = placeWith id w in
     view-checks w (Commits w id) (commitPlan id w) (commitChecks id w) refl (λ f o a c e.
-    view-cond w (Commits w id) (holds id w) _ _
+    view-cond w (Commits w id) (hasHeld id w) _ _
     (λ z. yes _ (marks (idle-only (isIdle (w .state .work)) o) a (eqb-false (p .count) 0 (not-true (eqb (p .count) 0) z)) (rw z at c) (rw z at e)))
     (λ z. yes _ (forgets (idle-only (isIdle (w .state .work)) o) a (eqb-true (p .count) 0 (not-false (eqb (p .count) 0) z)))))
 

@@ -7,7 +7,7 @@ use lib.Dec.{eqb}
 use Rattle.model.specs.Answers.{refused}
 use Rattle.model.specs.World.{World, Op, none, Plan, refuse, applyOp}
 use Rattle.model.specs.Order.{Check, firstOf, checked}
-use Rattle.model.specs.Transactions.{planBegin, planWrite, planDrop, planLone, planCommit, holds, beginChecks, writeChecks, dropChecks, loneChecks, commitChecks, abortChecks}
+use Rattle.model.specs.Transactions.{planBegin, planWrite, planDrop, planLone, planCommit, hasHeld, beginChecks, writeChecks, dropChecks, loneChecks, commitChecks, abortChecks}
 use Rattle.model.specs.Transactions.{planAbort, writePlan, lonePlan, markPlan, forgetPlan}
 use Rattle.model.specs.Strides.{planCheckpoint, planReclaim, planFormat, mapStride, zoneStride, pageStride, otherStride, firstStride, copiesDue, checkpointChecks, reclaimChecks, formatChecks}
 use Rattle.model.specs.Strides.{checkpointStride, copyStride, freeStride, reclaimStride, formatMore, formatLast, formatStride}
@@ -59,7 +59,7 @@ module _ (w : World) where
 
   keeps-commit : (id : ℕ) → Keeps w (planCommit id w)
   unfolding planCommit forgetPlan markPlan
-  keeps-commit id = keeps-checks (commitChecks id w) (keeps-cond (holds id w) keeps-done keeps-done)
+  keeps-commit id = keeps-checks (commitChecks id w) (keeps-cond (hasHeld id w) keeps-done keeps-done)
 
   keeps-abort : (id : ℕ) → Keeps w (planAbort id w)
   unfolding planAbort forgetPlan

@@ -6,7 +6,7 @@ use mathlib.Core.List.{List}
 use lib.Dec.{eqb}
 use Rattle.model.specs.World.{World, Op, Plan, refuse}
 use Rattle.model.specs.Order.{Check, firstOf, checked}
-use Rattle.model.specs.Transactions.{withPlace, withVersion, planBegin, planWrite, planDrop, planLone, planCommit, planAbort, placeWith, holds, beginChecks, writeChecks, dropChecks, loneChecks, commitChecks, abortChecks}
+use Rattle.model.specs.Transactions.{withPlace, withVersion, planBegin, planWrite, planDrop, planLone, planCommit, planAbort, placeWith, hasHeld, beginChecks, writeChecks, dropChecks, loneChecks, commitChecks, abortChecks}
 use Rattle.model.specs.Transactions.{writePlan, lonePlan, markPlan, forgetPlan, withLast, taking, heldState}
 use Rattle.model.specs.Strides.{withWork, withZones, withNumber, planCheckpoint, planReclaim, mapStride, zoneStride, pageStride, copiesDue, checkpointChecks, reclaimChecks}
 use Rattle.model.specs.Strides.{otherStride, firstStride, checkpointStride, copyStride, freeStride, reclaimStride}
@@ -65,7 +65,7 @@ module _ (w : World) where
 
   pub same-commit : (id : ℕ) → SameShape w (planCommit id w)
   unfolding planCommit forgetPlan markPlan withPlace withVersion withLast
-  same-commit id = same-checks (commitChecks id w) (same-cond (holds id w) (same-done refl) (same-done refl))
+  same-commit id = same-checks (commitChecks id w) (same-cond (hasHeld id w) (same-done refl) (same-done refl))
 
   pub same-abort : (id : ℕ) → SameShape w (planAbort id w)
   unfolding planAbort forgetPlan withPlace

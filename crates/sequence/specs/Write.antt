@@ -18,7 +18,7 @@ use Rattle.model.specs.World.{World, Plan, none, program, applyOp}
 use Rattle.model.specs.Order.{leaveOut}
 use Rattle.model.specs.Frame.{noPlace, badId, mostPages, isIdle}
 use Rattle.model.specs.Transactions.{placeOf, withPlace, cleanPages, nextPage, zoneShort, pageKind, changeBytes, heldAt, holdWith, heldPage, heldDrop}
-use Rattle.model.specs.Transactions.{placeWith, holds, badLogicalPage, notBegun, tooLong, shortZone, writeChecks, dropChecks, longestChange, written, heldOp, writePlan, addPlan, planWrite, gone, planDrop, withLast, taking, numberOf, heldState}
+use Rattle.model.specs.Transactions.{placeWith, hasHeld, badLogicalPage, notBegun, tooLong, shortZone, writeChecks, dropChecks, longestChange, written, heldOp, writePlan, addPlan, planWrite, gone, planDrop, withLast, taking, numberOf, heldState}
 use Rattle.model.specs.Commands.{Call, write, dropPage, plan, carried, exec}
 use Rattle.model.specs.Book.{Book, Write, called, entering, changing, tell, writesOf, addTo}
 use Rattle.model.specs.Sequence.{fits}
@@ -65,7 +65,7 @@ pub record WritesTo (w : World) (id lpn : ℕ) (drop : Bool) (d : List ℕ) (p :
 
 -- where none of 5, 8, 10 and 12 applies
 adds : (id lpn : ℕ) (drop : Bool) (d : List ℕ) (w : World) → isIdle (w .state .work) ≡ true → length d ≡ 512 → badLogicalPage lpn w .when ≡ false
-    → notBegun id w .when ≡ false → tooLong id w .when ≡ false → shortZone (holds id w) w .when ≡ false
+    → notBegun id w .when ≡ false → tooLong id w .when ≡ false → shortZone (hasHeld id w) w .when ≡ false
     → View w (WritesTo w id lpn drop d) (addPlan id lpn drop d w)
 adds id lpn drop d w i long c e z y =
     let p = placeWith id w in

@@ -8,7 +8,7 @@ use Rattle.model.specs.Lists.{all}
 use Rattle.model.specs.Answers.{refused}
 use Rattle.model.specs.World.{World, Op, none, Plan, programs}
 use Rattle.model.specs.Order.{Check, checked}
-use Rattle.model.specs.Transactions.{placeOf, heldOp, planBegin, writePlan, addPlan, planWrite, markPlan, forgetPlan, planCommit, planAbort, placeWith, holds, beginChecks, beginPlan, writeChecks, commitPlan, commitChecks, abortChecks}
+use Rattle.model.specs.Transactions.{placeOf, heldOp, planBegin, writePlan, addPlan, planWrite, markPlan, forgetPlan, planCommit, planAbort, placeWith, hasHeld, beginChecks, beginPlan, writeChecks, commitPlan, commitChecks, abortChecks}
 use Rattle.model.specs.Commands.{plan, carried, exec}
 use Rattle.model.specs.declared.Place.{Place}
 use Rattle.model.specs.Sessions.{zeros, commands, commandOf}
@@ -48,12 +48,12 @@ held-programs w i p = go (eqb (p .count) 0) _ refl
 
 write-tells : (id lpn : ℕ) (d : List ℕ) (w : World) → Tells (holdsPage (w .state .places) id) (planWrite id lpn d w)
 unfolding planWrite writePlan holdsPage numbered all
-write-tells id lpn d w = tells-checked (holds id w) w (addPlan id lpn false d w) (writeChecks id lpn d w) refl (λ h. held-programs w _ (placeWith id w))
+write-tells id lpn d w = tells-checked (hasHeld id w) w (addPlan id lpn false d w) (writeChecks id lpn d w) refl (λ h. held-programs w _ (placeWith id w))
 
 -- so does a commit
 commit-tells : (id : ℕ) (w : World) → Tells (holdsPage (w .state .places) id) (planCommit id w)
 unfolding planCommit markPlan forgetPlan holdsPage numbered all
-commit-tells id w = tells-checked (holds id w) w (commitPlan id w) (commitChecks id w) refl (λ h. go (holds id w))
+commit-tells id w = tells-checked (hasHeld id w) w (commitPlan id w) (commitChecks id w) refl (λ h. go (hasHeld id w))
   where
     go : (t : Bool) → t ≡ programs (cond t (markPlan (placeOf (w .state .places) id) (placeWith id w) w) (forgetPlan (placeOf (w .state .places) id) w) .op)
     go true = refl

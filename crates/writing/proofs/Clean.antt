@@ -1,15 +1,15 @@
 -- What the checks of a command that writes pages leave to it where none applies. Assumes nothing.
 use Prim.Native.Nat.{ℕ, _+_, _<_}
 use mathlib.Core.Path.{_≡_}
-use mathlib.Core.Bool.{Bool, true, false, not, _&&_}
+use mathlib.Core.Bool.{true, false}
 use mathlib.Core.List.{List}
-use lib.ListN.{length, getD}
-use lib.Dec.{eqb, leb}
+use lib.ListN.{length}
+use lib.Dec.{eqb}
 use borrow.Author.Tests.{leb-false, ltb-false, ne-eqb, eqb-true, not-false}
 use native.Mathlib.Omega.{arith}
 use Rattle.model.specs.World.{World}
-use Rattle.model.specs.Frame.{noPlace, frameOk}
-use Rattle.model.specs.Transactions.{placeOf, placeWith, holds, cleanPages, longestChange, badLogicalPage, notBegun, tooLong, badLength, shortZone, versionsSpent}
+use Rattle.model.specs.Frame.{frameOk}
+use Rattle.model.specs.Transactions.{placeOf, placeWith, hasHeld, cleanPages, longestChange, badLogicalPage, notBegun, tooLong, badLength, shortZone, versionsSpent}
 use Rattle.change.specs.Changes.{Taking, Writing}
 use Rattle.writing.specs.Looked.{Closing}
 
@@ -30,12 +30,12 @@ module _ (w : World) (frame : frameOk w ≡ true) where
     pub place-low : placeOf (w .state .places) id < 8
     place-low = leb-false 8 (placeOf (w .state .places) id) begun
 
-    held : 0 < placeWith id w .count → holds id w ≡ true
+    held : 0 < placeWith id w .count → hasHeld id w ≡ true
     held h = rw (ne-eqb (placeWith id w .count) 0 (λ z. omega (arith, h, z)))
 
     -- 5, 10, 12 of a page more in it
     pub page-writing : (lpn : ℕ) (d : List ℕ) → length d ≡ 512 → badLogicalPage lpn w .when ≡ false → tooLong id w .when ≡ false
-        → shortZone (holds id w) w .when ≡ false → Writing (w .state) (w .array) (w .map) (w .hold) (placeOf (w .state .places) id) lpn d
+        → shortZone (hasHeld id w) w .when ≡ false → Writing (w .state) (w .array) (w .map) (w .hold) (placeOf (w .state .places) id) lpn d
     page-writing lpn d long page room short =
         let few = leb-false longestChange (placeWith id w .count) room in
         record {
@@ -48,6 +48,6 @@ module _ (w : World) (frame : frameOk w ≡ true) where
         }
 
     -- 13 and 12 of its commit
-    pub place-closing : versionsSpent (holds id w) (w .state .version) 1 .when ≡ false → shortZone (holds id w) w .when ≡ false
+    pub place-closing : versionsSpent (hasHeld id w) (w .state .version) 1 .when ≡ false → shortZone (hasHeld id w) w .when ≡ false
         → Closing (w .state) (w .array) (w .map) (w .hold) (placeOf (w .state .places) id)
     place-closing spent short = record { place = place-low; taking = λ h. page-taking (rw (held h) at spent) (rw (held h) at short) }

@@ -1,15 +1,13 @@
 -- What the checks of the commands that write pages look at, and what closing a change may count on.
 use Prim.Native.Nat.{ℕ, _<_}
-use mathlib.Core.Path.{_≡_}
-use mathlib.Core.Bool.{true, not, cond}
+use mathlib.Core.Bool.{not, cond}
 use mathlib.Core.List.{List, [], _∷_}
 use lib.ListN.{getD}
 use lib.Dec.{eqb}
-use Rattle.model.specs.Zones.{availableOf, cleanIn}
 use Rattle.model.specs.World.{World, Plan}
 use Rattle.model.specs.Order.{Check}
-use Rattle.model.specs.Frame.{noPlace, frameOk}
-use Rattle.model.specs.Transactions.{holds, notBegun, tooLong, shortZone, markPlan, forgetPlan}
+use Rattle.model.specs.Frame.{noPlace}
+use Rattle.model.specs.Transactions.{hasHeld, notBegun, tooLong, shortZone, markPlan, forgetPlan}
 use Rattle.model.specs.declared.Place.{Place}
 use Rattle.model.specs.declared.State.{State}
 use Rattle.change.specs.Changes.{Taking}
@@ -20,7 +18,7 @@ looked s xs = record { array = xs; map = []; hold = []; state = s }
 
 -- 8, 10, 12 of a write and of a drop
 abbrev pub pageChecks : ℕ → World → List Check
-pageChecks id w = notBegun id w ∷ tooLong id w ∷ shortZone (holds id w) w ∷ []
+pageChecks id w = notBegun id w ∷ tooLong id w ∷ shortZone (hasHeld id w) w ∷ []
 
 -- what a commit does in place i
 abbrev pub closePlan : ℕ → Place → World → Plan

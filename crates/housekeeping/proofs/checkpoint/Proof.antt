@@ -1,5 +1,5 @@
 -- `housekeeping::checkpoint` meets its contract, as every command does: by what refuses it (`refuses`), else by its plan carried out (`carries`). Assumes nothing.
-use Prim.Native.Nat.{_+_, _<_}
+use Prim.Native.Nat.{_+_}
 use native.Mathlib.Omega.{arith}
 use borrow.Author.Tests.{ltb-false, not-false}
 use Rattle.model.specs.World.{World}
