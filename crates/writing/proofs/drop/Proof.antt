@@ -64,8 +64,7 @@ returns-2 c =
     let at-write-in = c .before .before .before .before in
     let at-place-of = at-write-in .before .before .before .before in
     let at-if1 = at-place-of .before .before in
-    let at-place = at-if1 .before in
-    let at = at-place in
+    let at = at-if1 .before in
     let a = at .before .before .before .before .before .before .args in
     let w : World = record { array = a .array .now; map = a .map .now; hold = a .hold .now; state = a .s } in
     carries w (dropPage (a .id) (a .lpn)) _ (at .drop-refusal .ensures) (at-if1 .if1 .left) _
