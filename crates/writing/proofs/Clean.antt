@@ -11,7 +11,6 @@ use Rattle.model.specs.World.{World}
 use Rattle.model.specs.Frame.{frameOk}
 use Rattle.model.specs.Transactions.{placeOf, placeWith, hasHeld, cleanPages, longestChange, badLogicalPage, notBegun, tooLong, badLength, shortZone, versionsSpent}
 use Rattle.change.specs.Changes.{Taking, Writing}
-use Rattle.writing.specs.Looked.{Closing}
 
 -- 11
 pub data-long : (d : List ℕ) → badLength d .when ≡ false → length d ≡ 512
@@ -48,6 +47,6 @@ module _ (w : World) (frame : frameOk w ≡ true) where
         }
 
     -- 13 and 12 of its commit
-    pub place-closing : versionsSpent (hasHeld id w) (w .state .version) 1 .when ≡ false → shortZone (hasHeld id w) w .when ≡ false
-        → Closing (w .state) (w .array) (w .map) (w .hold) (placeOf (w .state .places) id)
-    place-closing spent short = record { place = place-low; taking = λ h. page-taking (rw (held h) at spent) (rw (held h) at short) }
+    pub place-taking : versionsSpent (hasHeld id w) (w .state .version) 1 .when ≡ false → shortZone (hasHeld id w) w .when ≡ false
+        → 0 < placeWith id w .count → Taking (w .state) (w .array) (w .map) (w .hold)
+    place-taking spent short h = page-taking (rw (held h) at spent) (rw (held h) at short)

@@ -1,15 +1,12 @@
 // The commands that write pages: the number that refuses, and else the pages of a change.
 ghost use mathlib.Core.Path.{_≡_};
 ghost use mathlib.Core.List.{[], _∷_};
-ghost use lib.ListN.{getD};
 ghost use Rattle.model.specs.Answers.{number};
 ghost use Rattle.model.specs.Order.{firstOf};
-ghost use Rattle.model.specs.Frame.{noPlace};
 ghost use Rattle.model.specs.Transactions.{badLogicalPage, shortZone, versionsSpent, writeChecks, dropChecks, loneChecks, commitChecks};
 ghost use Rattle.model.specs.Commands.{Outcome, exec, write, dropPage, lone, commit};
 ghost use Rattle.zones.specs.Judging.{Ready};
-ghost use Rattle.change.specs.Changes.{done};
-ghost use Rattle.writing.specs.Looked.{looked, pageChecks, closePlan, Closing};
+ghost use Rattle.writing.specs.Looked.{looked, pageChecks};
 use model::Answer;
 use model::Refusal;
 use model::Spare;
@@ -204,20 +201,7 @@ fn commit_refusal(s: State, array: &[u8], map: &[u16], hold: &[u8], id: u32) -> 
     version_refusal(s, array, p.count != 0)
 }
 
-/// Closes the change of place i: with a held page its mark is programmed and its pages are entered; without one nothing is.
-fn close(s: State, array: &mut [u8], map: &mut [u16], hold: &[u8], i: usize) -> State
-    requires { ⌜ Closing s (now array) (now map) (now hold) i ⌝ }
-    ensures { λ r. ⌜ _≡_ {A = Outcome} (record { answer = 0; world = record { array = now (array .exit); map = now (map .exit); hold = now (hold .entry); state = r } }) (done (closePlan i (getD (s .places) i noPlace)) (record { array = now (array .entry); map = now (map .entry); hold = now (hold .entry); state = s })) ⌝ }
-{
-    let ps = s.places;
-    let p = ps[i];
-    if p.count == 0 {
-        return places::forgotten(s, i);
-    }
-    change::mark(s, array, map, hold, i)
-}
-
-/// Closes a change and enters its pages.
+/// Closes a change: with a held page its mark is programmed and its pages are entered; without one nothing is.
 pub fn commit(s: State, array: &mut [u8], map: &mut [u16], hold: &[u8], id: u32) -> Stride
     ensures { λ r. ⌜ _≡_ {A = Outcome} (record { answer = number (r .answer); world = record { array = now (array .exit); map = now (map .exit); hold = now (hold .entry); state = r .state } }) (exec (commit id) (record { array = now (array .entry); map = now (map .entry); hold = now (hold .entry); state = s })) ⌝ }
 {
@@ -227,7 +211,14 @@ pub fn commit(s: State, array: &mut [u8], map: &mut [u16], hold: &[u8], id: u32)
     }
     let ps = s.places;
     let i = places::place_of(ps, id);
-    let t = close(s, array, map, hold, i);
+    let p = ps[i];
+    if p.count == 0 {
+        return Stride {
+            answer: Answer::Done,
+            state: places::forgotten(s, i),
+        };
+    }
+    let t = change::mark(s, array, map, hold, i);
     Stride {
         answer: Answer::Done,
         state: t,
