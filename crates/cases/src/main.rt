@@ -15,7 +15,7 @@ fn tell(n: u8) {
 }
 
 /// The commands that are given again and again.
-#[derive(Drop)]
+#[derive(Clone, Copy)]
 enum Command {
     Format,
     Write,
@@ -23,7 +23,7 @@ enum Command {
 }
 
 /// What came of a command that was given again and again: the device, how often it went on, and the last answer.
-#[derive(Drop)]
+#[derive(Clone, Copy)]
 struct Repeated {
     device: Device,
     turns: u8,

@@ -13,7 +13,7 @@ ghost use Rattle.change.specs.Changes.{next_of, data_spare, done, HeldDone, Taki
 use model::{Geometry, Map, Place, Plane, Spare, State};
 
 /// Some of the available blocks: the first n numbers.
-#[derive(Drop)]
+#[derive(Clone, Copy)]
 struct Picked {
     list: [u8; 3],
     n: usize,

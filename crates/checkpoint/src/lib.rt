@@ -9,7 +9,7 @@ ghost use Rattle.checkpoint.specs.Found.{found_of, Fronts};
 use model::{Map, Spare, Zones};
 
 /// A page or a block that was looked for.
-#[derive(Drop)]
+#[derive(Clone, Copy)]
 pub enum Found {
     Nothing,
     At(usize),

@@ -10,13 +10,13 @@ use model::{Answer, Geometry, State};
 use strides::Stride;
 
 /// The handle with the commands.
-#[derive(Drop)]
+#[derive(Clone, Copy)]
 pub struct Device {
     pub state: State,
 }
 
 /// What a command gives back.
-#[derive(Drop)]
+#[derive(Clone, Copy)]
 pub struct Reply {
     pub answer: Answer,
     pub device: Device,

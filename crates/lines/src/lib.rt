@@ -5,7 +5,7 @@ ghost use Rattle.text.specs.Text.{Put};
 ghost use Rattle.lines.specs.Text.{number_line, blocks_line};
 
 /// What a line says: a number, and how many bytes the line takes; or nothing.
-#[derive(Drop)]
+#[derive(Clone, Copy)]
 pub enum Parsed {
     Number(u16, usize),
     IllFormed,

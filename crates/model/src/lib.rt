@@ -1,12 +1,14 @@
 // Document 01 (docs/PAPERS.md) as types and definitions: what a reader must believe. The types stand here, the definitions in specs/.
 // Everything is plain data by value; it assumes nothing.
+#![tactic(auto)]
+
 ghost use Rattle.std.specs.Prelude.{◌≡◌};
 ghost use Rattle.model.specs.Geometry.{leads};
 ghost use Rattle.model.specs.Frame.{free_place, fresh_state};
 ghost use Rattle.model.specs.Zones.{no_zones};
 
 /// The shape of a device: blocks, pages a block, logical pages, planes.
-#[derive(Drop)]
+#[derive(Clone, Copy)]
 pub struct Geometry {
     pub blocks: u16,
     pub pages: u16,
@@ -33,7 +35,7 @@ impl Geometry {
 }
 
 /// The map is a lent slice with one number for each logical page: its page number, or `UNMAPPED`.
-#[derive(Drop)]
+#[derive(Clone, Copy)]
 pub struct Map;
 
 impl Map {
@@ -55,7 +57,7 @@ impl Map {
 
 /// The spare area of a page before Zeros: LPN, TxCnt, TxID, TxVer, Kind, Reserved.
 /// TxCnt is 0, or on a mark the number of all pages of its transaction; TxVer is 0 wherever TxCnt is, on data pages.
-#[derive(Drop)]
+#[derive(Clone, Copy)]
 pub struct Spare {
     pub lpn: u16,
     pub cnt: u16,
@@ -99,7 +101,7 @@ impl Spare {
 
 /// Erased: all 528 bytes 0xFF. Whole: otherwise, and Zeros agrees. Torn: neither; it belongs to nobody, and Zeros minus the zero bits counted
 /// says how torn it is.
-#[derive(Drop)]
+#[derive(Clone, Copy)]
 pub enum Class {
     Erased,
     Whole,
@@ -108,7 +110,7 @@ pub enum Class {
 
 /// A transaction place: `count` pages written, the last of them held, those before it programmed on `ppns`; `drops` says which of them drop
 /// their logical page. Free: identifier 0 and count 0.
-#[derive(Drop)]
+#[derive(Clone, Copy)]
 pub struct Place {
     pub id: u32,
     pub count: u8,
@@ -119,7 +121,7 @@ pub struct Place {
 
 /// The zone lists, of which the first `na`, `nu` and `nf` numbers count; every other data block is checkpointed.
 /// The free ones ascend; the pointer says from where the next free block is taken.
-#[derive(Drop)]
+#[derive(Clone, Copy)]
 pub struct Zones {
     pub available: [u8; 3],
     pub na: u8,
@@ -131,7 +133,7 @@ pub struct Zones {
 }
 
 /// The plane of the last data block page on a device of two planes; neither after format and recover.
-#[derive(Drop)]
+#[derive(Clone, Copy)]
 pub enum Plane {
     Neither,
     Even,
@@ -139,7 +141,7 @@ pub enum Plane {
 }
 
 /// The work under way. Format: strides done. Checkpoint: pages programmed. Reclaim picks anew at each stride.
-#[derive(Drop)]
+#[derive(Clone, Copy)]
 pub enum Work {
     Idle,
     Format(u16),
@@ -149,7 +151,7 @@ pub enum Work {
 
 /// What goes into a command and comes back: `front` is the current front block, `first` the page within it
 /// at which a checkpoint under way began, else 0.
-#[derive(Drop)]
+#[derive(Clone, Copy)]
 pub struct State {
     pub geometry: Geometry,
     pub zones: Zones,
@@ -163,7 +165,7 @@ pub struct State {
 }
 
 /// The refusals, by the trade's word for each.
-#[derive(Drop)]
+#[derive(Clone, Copy)]
 pub enum Refusal {
     BadFrame,
     NoCheckpoint,
@@ -221,7 +223,7 @@ impl Refusal {
     pub const BUSY: u8 = 17;
 }
 
-#[derive(Drop)]
+#[derive(Clone, Copy)]
 pub enum Answer {
     Done,
     More,

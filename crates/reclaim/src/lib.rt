@@ -25,7 +25,7 @@ const FIRST: usize = Geometry::FRONT_BLOCKS as usize;
 const LISTED: u16 = 0xFFFF;
 
 /// The number that refuses a reclaim, or 0 and the block that it takes, with the copies due from it.
-#[derive(Drop)]
+#[derive(Clone, Copy)]
 pub struct Due {
     pub refusal: u8,
     pub block: usize,

@@ -15,7 +15,7 @@ const FEW: usize = 512;
 const MOST: usize = 8064;
 
 /// Whether refusal 4 passes the scan, and its highest version.
-#[derive(Drop)]
+#[derive(Clone, Copy)]
 pub struct Scanned {
     pub good: bool,
     pub top: u32,

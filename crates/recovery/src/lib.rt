@@ -17,7 +17,7 @@ use model::{Geometry, Map, Spare};
 const LOGICAL: usize = Geometry::MAX_LOGICAL as usize;
 
 /// With which version pages are entered: that of their run, or each with its own.
-#[derive(Drop)]
+#[derive(Clone, Copy)]
 enum By {
     Run(u32),
     Own,

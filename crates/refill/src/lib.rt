@@ -16,7 +16,7 @@ const FRONT: usize = Geometry::FRONT_BLOCKS as usize;
 const FIRST: u8 = Geometry::FRONT_BLOCKS as u8;
 
 /// What is left of the zones when some free blocks are taken.
-#[derive(Drop)]
+#[derive(Clone, Copy)]
 pub struct Taken {
     pub available: Blocks,
     pub free: Blocks,

@@ -29,14 +29,14 @@ const LONGEST: usize = 4;
 const LINE: usize = 3072;
 
 /// The end of the text in its buffer, or that the text has no room there.
-#[derive(Drop)]
+#[derive(Clone, Copy)]
 pub enum Listing {
     Listed(usize),
     Full,
 }
 
 /// A session under way: the device, the end of what was put, and whether no command was refused.
-#[derive(Drop)]
+#[derive(Clone, Copy)]
 struct Progress {
     device: Device,
     end: usize,

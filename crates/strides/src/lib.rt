@@ -11,7 +11,7 @@ ghost use Rattle.strides.specs.Strode.{Strode, Fit, Next};
 use model::{Answer, Refusal, State, Work};
 
 /// The answer and the state after a stride.
-#[derive(Drop)]
+#[derive(Clone, Copy)]
 pub struct Stride {
     pub answer: Answer,
     pub state: State,

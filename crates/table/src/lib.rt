@@ -32,35 +32,35 @@ const ZEROS: [u8; 256] = *b"\
     \x04\x03\x03\x02\x03\x02\x02\x01\x03\x02\x02\x01\x02\x01\x01\x00";
 
 /// What a scan takes from a page.
-#[derive(Drop)]
+#[derive(Clone, Copy)]
 pub struct Looked {
     pub class: Class,
     pub spare: Spare,
 }
 
 /// Three words added bit by bit: the carries, each worth two, and the low bits.
-#[derive(Drop)]
+#[derive(Clone, Copy)]
 pub struct Added {
     pub carry: u64,
     pub low: u64,
 }
 
 /// Two neighbouring words of a page, which the compiler takes at once.
-#[derive(Drop)]
+#[derive(Clone, Copy)]
 pub struct Pair {
     pub left: u64,
     pub right: u64,
 }
 
 /// Three pairs added, each side by itself.
-#[derive(Drop)]
+#[derive(Clone, Copy)]
 pub struct AddedPairs {
     pub carry: Pair,
     pub low: Pair,
 }
 
 /// Many words added: the words whose bits count one, two and four.
-#[derive(Drop)]
+#[derive(Clone, Copy)]
 pub struct Sum {
     pub one: u64,
     pub two: u64,
@@ -68,7 +68,7 @@ pub struct Sum {
 }
 
 /// Many pairs added.
-#[derive(Drop)]
+#[derive(Clone, Copy)]
 pub struct PairSum {
     pub one: Pair,
     pub two: Pair,
