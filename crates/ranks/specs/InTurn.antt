@@ -88,7 +88,7 @@ dealt_insert (suc n) e es l = go (eqb_cases (number e) (suc n)) (dealt_insert n 
     go (inl q) ih = rw (q.1, dealt_past n e es (omega (arith, q.0))) (insert_middle e (dealt number n es) heap)
     go (inr q) ih = rw q.1 (insert_append e heap (ih (omega (arith, q.0))))
 
-pub top_insert : {xs ys : List Entry} (e : Entry) → Insert e xs ys → top ys ≡ max (top xs) e.ver
+pub top_insert : (e : Entry) {xs ys : List Entry} → Insert e xs ys → top ys ≡ max (top xs) e.ver
 unfolding top
 top_insert e (here xs) = omega arith
 top_insert e (there x i) = omega (arith, top_insert e i)
