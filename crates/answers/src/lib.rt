@@ -1,4 +1,6 @@
 // Answers by the numbers of document 01 (docs/PAPERS.md), for those who hand them on: 0 done, 255 more, else the refusal's number in the table.
+#![tactic(auto)]
+
 ghost use Rattle.std.specs.Prelude.{◌≡◌, true};
 ghost use Rattle.model.specs.Answers.{refusal_number, number, in_table, refused};
 
