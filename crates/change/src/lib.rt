@@ -136,7 +136,7 @@ pub fn hold_page(hold: &mut [u8], i: usize, data: &[u8])
 {
     let a = Spare::DATA * i;
     let e = a + Spare::DATA;
-    let n = bytes::copy(data, &mut hold[a..e]);
+    let n = octets::copy(data, &mut hold[a..e]);
 }
 
 /// Enters the first n pages of a place in the map, in write order.

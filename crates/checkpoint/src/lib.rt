@@ -84,7 +84,7 @@ pub fn zone_data(version: u32, z: Zones) -> [u8; Spare::DATA]
     d[5] = z.na;
     d[6] = z.nu;
     d[7] = z.nf;
-    let k = bytes::copy(&list[..n], &mut d[8..]);
+    let k = octets::copy(&list[..n], &mut d[8..]);
     d
 }
 

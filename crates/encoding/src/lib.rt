@@ -82,7 +82,7 @@ fn load_bytes(from: &[u8], at: usize, list: &mut [u8])
     ensures { list.new ≡ part at (length list.old) from.now }
 {
     let end = at + list.len();
-    let n = bytes::copy(&from[at..end], list);
+    let n = octets::copy(&from[at..end], list);
 }
 
 /// Fills the list with the drops from `at` on.
@@ -236,7 +236,7 @@ fn put_bytes(to: &mut [u8], at: usize, list: &[u8])
     ensures { Laid to.old at (length list.now) list.now to.new }
 {
     let end = at + list.len();
-    let n = bytes::copy(list, &mut to[at..end]);
+    let n = octets::copy(list, &mut to[at..end]);
 }
 
 /// Puts numbers of 2 bytes from `at` on.

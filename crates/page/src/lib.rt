@@ -1,5 +1,7 @@
 // A page as 528 bytes: its class, its spare area, and how it is programmed and a block erased.
 // Every function takes the part of the lent array that it speaks of; what it requires is the part's length.
+#![tactic(auto)]
+
 ghost use Rattle.std.specs.Prelude.{◌≡◌, false, ◌+◌, ◌*◌, ◌≤◌, ◌<◌, length, take, replicate};
 ghost use Rattle.std.proofs.lemmas.List.Edits.{sets};
 ghost use Rattle.model.specs.Lists.{part};
@@ -213,7 +215,7 @@ pub fn program(page: &mut [u8], data: &[u8], s: Spare)
     requires { (length page.old ≡ 528) × (length «data».now ≡ 512) }
     ensures { page.new ≡ page_bytes «data».now s }
 {
-    let n = bytes::copy(data, page);
+    let n = octets::copy(data, page);
     put_spare(page, s);
     let z = zeros(page);
     put16(page, Spare::ZEROS, z);

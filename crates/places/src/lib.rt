@@ -1,4 +1,6 @@
 // The places of a state and the state with one part replaced, by value.
+#![tactic(auto)]
+
 ghost use Rattle.std.specs.Prelude.{◌≡◌, ◌+◌, ◌<◌};
 ghost use Rattle.model.specs.Lists.{any, find};
 ghost use Rattle.model.specs.Zones.{has_id, active, plane_of};

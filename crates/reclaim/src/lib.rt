@@ -182,7 +182,7 @@ fn copy_stride(s: State, array: &mut [u8], map: &mut [u16], j: usize) -> Stride
     let from = j * Spare::PAGE;
     let to = from + Spare::DATA;
     let mut d = [0u8; Spare::DATA];
-    let n = bytes::copy(&array[from..to], &mut d);
+    let n = octets::copy(&array[from..to], &mut d);
     let v = s.version + 1;
     change::put_lone(array, map, k, lpn as u16, v, &d);
     Stride {

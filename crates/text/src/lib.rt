@@ -1,4 +1,6 @@
 // Text put into a buffer: bytes, numbers in decimal, lists of numbers with commas.
+#![tactic(auto)]
+
 ghost use Rattle.std.specs.Prelude.{◌+◌, ◌*◌, ◌≤◌, ◌++◌, length, take};
 ghost use Rattle.text.specs.Text.{decimal, comma, listed, Put};
 
@@ -7,7 +9,7 @@ pub fn put(out: &mut [u8], at: usize, text: &[u8]) -> usize
     requires { at + length text.now ≤ length out.old }
     ensures { Put out.old at text.now (length text.now) out.new result }
 {
-    let n = bytes::copy(text, &mut out[at..]);
+    let n = octets::copy(text, &mut out[at..]);
     at + n
 }
 

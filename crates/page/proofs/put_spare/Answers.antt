@@ -1,0 +1,14 @@
+-- `page::put_spare` meets its contract: its three words are the bytes of the spare area, by `Storing`. Assumes nothing.
+use native.Mathlib.Omega.{arith}
+use borrow.Author.Rules.{rules}
+use Rattle.page.proofs.Storing.{three_words}
+use Rattle.page.proofs.put_spare.Goals as goal
+
+pub returns : goal.returns
+returns c =
+    let a = c.args in
+    let kind = c.struct_known-4-1.given.1.1.1.1.0 in
+    three_words a.s a.page.now _ _ _ (omega arith) (omega arith) kind.fits
+    c.put64.ensures
+    c.put32.ensures
+    c.put16.ensures

@@ -1,0 +1,18 @@
+-- `text::put_list` meets its contract. The loop's invariant: the numbers put and those that are left are all; the measure is those that are left. Assumes nothing.
+use mathlib.Core.Path.{◌≡◌, refl, sym, ap, ◌∙◌}
+use mathlib.Core.List.{◌++◌}
+use Prim.Native.Nat.{ℕ, ◌+◌, ◌-◌, ◌*◌, ◌≤◌}
+use native.Mathlib.Omega.{arith}
+use lib.ListN.{length, take, drop, length-take}
+use lib.Seq.{get_or-take}
+use borrow.Author.Rules.{rules}
+use Rattle.text.specs.Text.{comma, decimal, listed}
+use Rattle.text.proofs.Putting.{put_is}
+use Rattle.text.proofs.Lists.{items_again, items_done}
+use Rattle.text.proofs.put_list.Given as goal
+
+abbrev pub invariant-loop-i : goal.invariant-loop-i
+invariant-loop-i l = (l.i ≤ length l.list) × ((l.end ≤ l.at + 21 * l.i) × ((length l.out ≡ length l.initial.out) × (take l.end l.out ++ listed l.i (drop l.i (take l.n l.list)) ≡ take l.at l.initial.out ++ listed 0 (take l.n l.list))))
+
+abbrev pub decreases-loop-i : goal.decreases-loop-i
+decreases-loop-i l = length l.list - l.i
