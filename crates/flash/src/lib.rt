@@ -1,5 +1,7 @@
 // The lent array: pages and blocks in it by number, and the single program or erase of a call.
 // Every function requires that the pages which it looks at or changes lie in the array.
+#![tactic(auto)]
+
 ghost use Rattle.std.specs.Prelude.{◌≡◌, ◌+◌, ◌-◌, ◌*◌, ◌≤◌, length, ltb};
 ghost use Rattle.model.specs.Page.{spare_of, page_bytes, page_at, blank_at, whole_at, torn_at};
 ghost use Rattle.model.specs.Zones.{used_in, clean_in, next_in};

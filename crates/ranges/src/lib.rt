@@ -1,4 +1,6 @@
 // Whether a geometry, the lent buffers, a map and zone lists are in range: what refusals 1 and 3 share.
+#![tactic(auto)]
+
 ghost use Rattle.std.specs.Prelude.{◌≡◌, true, ◌&&◌, ◌||◌, ◌+◌, ◌-◌, ◌*◌, ◌≤◌, ◌<◌, [], length, take, drop, eqb};
 ghost use Rattle.model.specs.Lists.{all_heads, rising};
 ghost use Rattle.model.specs.Geometry.{geometry_ok, lengths_ok, map_pages, map_ok};

@@ -1,6 +1,8 @@
 // The zero bits of each byte value as a table of 256 numbers, and the zero bits of a page counted by it, as recovery counts them.
 // A page's words are first added bit by bit, with carries, so that 7 words are looked up for 66.
 // Who counts takes the table into a local once and lends it: a constant that is indexed where it stands is built anew at every look.
+#![tactic(auto)]
+
 ghost use Rattle.std.specs.Prelude.{◌≡◌, ◌+◌, ◌*◌, ◌%◌, ◌≤◌, length, take};
 ghost use Rattle.std.specs.Int.Count.{ones};
 ghost use Rattle.model.specs.Lists.{part};

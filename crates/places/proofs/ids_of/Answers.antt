@@ -19,4 +19,4 @@ pub returns : goal.returns
 returns c =
     let l = c.loop-i in
     let e : l.i ≡ 8 = omega arith in
-    copied_all c.args.t1 _ _ l.i (search rules) (search rules) l.invariant.1.1.1
+    copied_all c.args.places _ _ l.i (search rules) (search rules) l.invariant.1.1.1

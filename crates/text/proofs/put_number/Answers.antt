@@ -1,11 +1,13 @@
 -- `text::put_number` meets its contract: by the digits that `io` gives. Assumes nothing.
+use mathlib.Core.Path.{sym}
 use native.Mathlib.Omega.{arith}
+use lib.Seq.{length-take-le}
 use Rattle.text.proofs.Decimals.{few_digits, put_digits}
 use borrow.Author.Rules.{rules}
 use Rattle.text.proofs.put_number.Goals as goal
 
 pub put-requires : goal.put-requires
-put-requires c = omega (arith, few_digits c.decimal-k.new.out c.decimal-k.result c.args.n c.ranges.n.fits c.decimal-k.ensures.1.0 c.decimal-k.ensures.0.1)
+put-requires c = omega (arith, few_digits c.decimal-k.new.out c.decimal-k.result c.args.n c.ranges.n.fits c.decimal-k.ensures.len (sym (length-take-le c.decimal-k.result c.decimal-k.new.out c.decimal-k.ensures.in_bounds)))
 
 pub returns : goal.returns
-returns c = put_digits c.decimal-k.new.out c.ranges.n.fits c.decimal-k.ensures.0.1 c.decimal-k.ensures.1.0 c.decimal-k.ensures.1.1 c.put.ensures
+returns c = put_digits c.decimal-k.new.out c.ranges.n.fits (sym (length-take-le c.decimal-k.result c.decimal-k.new.out c.decimal-k.ensures.in_bounds)) c.decimal-k.ensures.len c.decimal-k.ensures.digits c.put.ensures

@@ -1,0 +1,15 @@
+-- `flash::still_due` meets its contract. The loop's invariant: the pages of the block from `n` on are erased, and with `left` they are those due. Assumes nothing.
+use mathlib.Core.Path.{◌≡◌, refl, sym, ap, ◌∙◌}
+use Prim.Native.Nat.{suc, ◌+◌, ◌-◌, ◌*◌, ◌≤◌}
+use native.Mathlib.Omega.{arith}
+use borrow.Author.Tests.{not-true, not-false}
+use Rattle.model.specs.Page.{used_from}
+use Rattle.model.specs.Zones.{used_in}
+use Rattle.arrays.specs.Used.{used_zero, used_clean_end, used_end, used_le}
+use Rattle.flash.proofs.still_due.Given as goal
+
+abbrev pub invariant-loop-left : goal.invariant-loop-left
+invariant-loop-left l = (l.n ≤ l.pages) × ((l.left + (l.pages - l.n) ≡ l.due) × (used_in l.array l.pages l.b ≡ used_from l.array (l.b * l.pages) l.n))
+
+abbrev pub decreases-loop-left : goal.decreases-loop-left
+decreases-loop-left l = l.left

@@ -1,0 +1,10 @@
+-- `ranges::lent_ok_law` meets its contract: from what its calls ensure. Assumes nothing.
+use borrow.Author.Tests.{not-true, not-false}
+use borrow.Author.Rules.{rules}
+use Rattle.ranges.proofs.lent_ok.Goals as goal
+
+pub returns-then-not-geometry_ok : goal.returns-then-not-geometry_ok
+returns-then-not-geometry_ok c = simp (← c.geometry_ok.ensures, not-true c.geometry_ok.result c.if-not-geometry_ok.taken)
+
+pub returns : goal.returns
+returns c = simp (← c.geometry_ok.ensures, ← c.lengths_ok.ensures, not-false c.geometry_ok.result c.if-not-geometry_ok.left)

@@ -1,0 +1,15 @@
+-- `table::classify` meets its contract: an erased page is, and `page::classed` takes any other. Assumes nothing.
+use mathlib.Core.Path.{sym, ◌∙◌}
+use borrow.Author.Rules.{rules}
+use Rattle.model.specs.Page.{class_of}
+use Rattle.table.proofs.classify.Goals as goal
+
+pub returns-then-erased : goal.returns-then-erased
+unfolding class_of
+returns-then-erased c = rw (sym c.erased.ensures ∙ c.if-erased.true)
+
+pub classed-requires : goal.classed-requires
+classed-requires c = (c.requires.0, (sym c.erased.ensures ∙ c.if-erased.false, c.zeros.ensures))
+
+pub returns : goal.returns
+returns c = c.classed.ensures

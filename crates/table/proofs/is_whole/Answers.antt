@@ -1,0 +1,15 @@
+-- `table::is_whole` meets its contract: an erased page is not, and `page::classed` takes any other. Assumes nothing.
+use mathlib.Core.Path.{sym, ap, ◌∙◌}
+use borrow.Author.Rules.{rules}
+use Rattle.model.specs.Page.{class_of, is_whole}
+use Rattle.table.proofs.is_whole.Goals as goal
+
+pub returns-then-erased : goal.returns-then-erased
+unfolding class_of
+returns-then-erased c = rw (sym c.erased.ensures ∙ c.if-erased.true)
+
+pub classed-requires : goal.classed-requires
+classed-requires c = (c.requires.0, (sym c.erased.ensures ∙ c.if-erased.false, c.zeros.ensures))
+
+pub returns : goal.returns
+returns c = c.is_whole.ensures ∙ ap is_whole c.classed.ensures
