@@ -37,7 +37,7 @@ returns-then-not-is_blank c =
     let a = c.args in
     let l = c.loop-left in
     let e : l.n ≡ suc (l.n - 1) = omega arith in
-    let u = l.invariant.1.1 ∙ ap (used_from a.array.now (a.b * a.pages)) e ∙ used_end a.array.now (a.b * a.pages) (l.n - 1) (sym c.is_blank.ensures ∙ not-true _ c.if-not-is_blank.true) in
+    let u = l.invariant.1.1 ∙ ap (used_from a.array.now (a.b * a.pages)) e ∙ used_end a.array.now (a.b * a.pages) (l.n - 1) (sym c.is_blank.ensures ∙ c.if-not-is_blank.true) in
     omega arith
 
 pub overflow_sub-left : goal.overflow_sub-left
@@ -51,7 +51,7 @@ loop-left-preserved c =
     let a = c.args in
     let l = c.loop-left in
     let e : l.n ≡ suc (l.n - 1) = omega arith in
-    (omega arith, (omega arith, l.invariant.1.1 ∙ ap (used_from a.array.now (a.b * a.pages)) e ∙ used_clean_end a.array.now (a.b * a.pages) (l.n - 1) (sym c.is_blank.ensures ∙ not-false _ c.if-not-is_blank.false)))
+    (omega arith, (omega arith, l.invariant.1.1 ∙ ap (used_from a.array.now (a.b * a.pages)) e ∙ used_clean_end a.array.now (a.b * a.pages) (l.n - 1) (sym c.is_blank.ensures ∙ c.if-not-is_blank.false)))
 
 pub returns : goal.returns
 returns c =

@@ -20,27 +20,27 @@ all_pass g a b c d e f t h =
 
 pub returns-then-g-lt-MIN_BLOCKS : goal.returns-then-g-lt-MIN_BLOCKS
 unfolding geometry_ok
-returns-then-g-lt-MIN_BLOCKS c = simp (lt-leb _ _ c.if-g-lt-MIN_BLOCKS.taken)
+returns-then-g-lt-MIN_BLOCKS c = simp (lt-leb _ _ c.if-g-lt-MIN_BLOCKS.true)
 
 pub returns-then-g-gt-MAX_BLOCKS : goal.returns-then-g-gt-MAX_BLOCKS
 unfolding geometry_ok
-returns-then-g-gt-MAX_BLOCKS c = simp (le-leb _ _ c.if-g-lt-MIN_BLOCKS.left, lt-leb _ _ c.if-g-gt-MAX_BLOCKS.taken)
+returns-then-g-gt-MAX_BLOCKS c = simp (le-leb _ _ c.if-g-lt-MIN_BLOCKS.false, lt-leb _ _ c.if-g-gt-MAX_BLOCKS.true)
 
 pub returns-then-g-lt-MIN_PAGES : goal.returns-then-g-lt-MIN_PAGES
 unfolding geometry_ok
-returns-then-g-lt-MIN_PAGES c = simp (le-leb _ _ c.if-g-lt-MIN_BLOCKS.left, le-leb _ _ c.if-g-gt-MAX_BLOCKS.left, lt-leb _ _ c.if-g-lt-MIN_PAGES.taken)
+returns-then-g-lt-MIN_PAGES c = simp (le-leb _ _ c.if-g-lt-MIN_BLOCKS.false, le-leb _ _ c.if-g-gt-MAX_BLOCKS.false, lt-leb _ _ c.if-g-lt-MIN_PAGES.true)
 
 pub returns-then-g-gt-MAX_PAGES : goal.returns-then-g-gt-MAX_PAGES
 unfolding geometry_ok
-returns-then-g-gt-MAX_PAGES c = simp (le-leb _ _ c.if-g-lt-MIN_BLOCKS.left, le-leb _ _ c.if-g-gt-MAX_BLOCKS.left, le-leb _ _ c.if-g-lt-MIN_PAGES.left, lt-leb _ _ c.if-g-gt-MAX_PAGES.taken)
+returns-then-g-gt-MAX_PAGES c = simp (le-leb _ _ c.if-g-lt-MIN_BLOCKS.false, le-leb _ _ c.if-g-gt-MAX_BLOCKS.false, le-leb _ _ c.if-g-lt-MIN_PAGES.false, lt-leb _ _ c.if-g-gt-MAX_PAGES.true)
 
 pub returns-then-g-lt1 : goal.returns-then-g-lt1
 unfolding geometry_ok
-returns-then-g-lt1 c = simp (le-leb _ _ c.if-g-lt-MIN_BLOCKS.left, le-leb _ _ c.if-g-gt-MAX_BLOCKS.left, le-leb _ _ c.if-g-lt-MIN_PAGES.left, le-leb _ _ c.if-g-gt-MAX_PAGES.left, lt-leb _ _ c.if-g-lt1.taken)
+returns-then-g-lt1 c = simp (le-leb _ _ c.if-g-lt-MIN_BLOCKS.false, le-leb _ _ c.if-g-gt-MAX_BLOCKS.false, le-leb _ _ c.if-g-lt-MIN_PAGES.false, le-leb _ _ c.if-g-gt-MAX_PAGES.false, lt-leb _ _ c.if-g-lt1.true)
 
 pub returns-then-g-gt-MAX_LOGICAL : goal.returns-then-g-gt-MAX_LOGICAL
 unfolding geometry_ok
-returns-then-g-gt-MAX_LOGICAL c = simp (le-leb _ _ c.if-g-lt-MIN_BLOCKS.left, le-leb _ _ c.if-g-gt-MAX_BLOCKS.left, le-leb _ _ c.if-g-lt-MIN_PAGES.left, le-leb _ _ c.if-g-gt-MAX_PAGES.left, le-leb _ _ c.if-g-lt1.left, lt-leb _ _ c.if-g-gt-MAX_LOGICAL.taken)
+returns-then-g-gt-MAX_LOGICAL c = simp (le-leb _ _ c.if-g-lt-MIN_BLOCKS.false, le-leb _ _ c.if-g-gt-MAX_BLOCKS.false, le-leb _ _ c.if-g-lt-MIN_PAGES.false, le-leb _ _ c.if-g-gt-MAX_PAGES.false, le-leb _ _ c.if-g-lt1.false, lt-leb _ _ c.if-g-gt-MAX_LOGICAL.true)
 
 pub overflow_mul-g : goal.overflow_mul-g
 overflow_mul-g c =
@@ -53,12 +53,12 @@ overflow_mul-g c =
 pub returns-then-g : goal.returns-then-g
 returns-then-g c =
     let g = c.args.g in
-    all_pass g c.if-g-lt-MIN_BLOCKS.left c.if-g-gt-MAX_BLOCKS.left c.if-g-lt-MIN_PAGES.left c.if-g-gt-MAX_PAGES.left c.if-g-lt1.left c.if-g-gt-MAX_LOGICAL.left
-    false (lt-leb _ _ c.if-g.taken)
+    all_pass g c.if-g-lt-MIN_BLOCKS.false c.if-g-gt-MAX_BLOCKS.false c.if-g-lt-MIN_PAGES.false c.if-g-gt-MAX_PAGES.false c.if-g-lt1.false c.if-g-gt-MAX_LOGICAL.false
+    false (lt-leb _ _ c.if-g.true)
 
 pub returns : goal.returns
 returns c =
     let g = c.args.g in
     c.planes_ok.ensures
-    ∙ all_pass g c.if-g-lt-MIN_BLOCKS.left c.if-g-gt-MAX_BLOCKS.left c.if-g-lt-MIN_PAGES.left c.if-g-gt-MAX_PAGES.left c.if-g-lt1.left c.if-g-gt-MAX_LOGICAL.left
-    true (le-leb _ _ c.if-g.left)
+    ∙ all_pass g c.if-g-lt-MIN_BLOCKS.false c.if-g-gt-MAX_BLOCKS.false c.if-g-lt-MIN_PAGES.false c.if-g-gt-MAX_PAGES.false c.if-g-lt1.false c.if-g-gt-MAX_LOGICAL.false
+    true (le-leb _ _ c.if-g.false)

@@ -25,12 +25,12 @@ overflow_mul-bytes-2 c =
 
 pub returns-then-array-bytes : goal.returns-then-array-bytes
 unfolding lengths_ok
-returns-then-array-bytes c = simp (ne_eqb _ _ c.if-array-bytes.taken)
+returns-then-array-bytes c = simp (ne_eqb _ _ c.if-array-bytes.true)
 
 pub returns-then-map-g : goal.returns-then-map-g
 unfolding lengths_ok
-returns-then-map-g c = simp (eq-eqb _ _ c.if-array-bytes.left, ne_eqb _ _ c.if-map-g.taken)
+returns-then-map-g c = simp (eq-eqb _ _ c.if-array-bytes.false, ne_eqb _ _ c.if-map-g.true)
 
 pub returns : goal.returns
 unfolding lengths_ok
-returns c = simp (eq-eqb _ _ c.if-array-bytes.left, eq-eqb _ _ c.if-map-g.left)
+returns c = simp (eq-eqb _ _ c.if-array-bytes.false, eq-eqb _ _ c.if-map-g.false)

@@ -4,7 +4,7 @@ use borrow.Author.Rules.{rules}
 use Rattle.ranges.proofs.lent_ok.Goals as goal
 
 pub returns-then-not-geometry_ok : goal.returns-then-not-geometry_ok
-returns-then-not-geometry_ok c = simp (← c.geometry_ok.ensures, not-true c.geometry_ok.result c.if-not-geometry_ok.taken)
+returns-then-not-geometry_ok c = simp (← c.geometry_ok.ensures, c.if-not-geometry_ok.true)
 
 pub returns : goal.returns
-returns c = simp (← c.geometry_ok.ensures, ← c.lengths_ok.ensures, not-false c.geometry_ok.result c.if-not-geometry_ok.left)
+returns c = simp (← c.geometry_ok.ensures, ← c.lengths_ok.ensures, c.if-not-geometry_ok.false)

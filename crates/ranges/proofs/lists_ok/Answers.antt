@@ -15,33 +15,33 @@ use Rattle.ranges.proofs.lists_ok.Goals as goal
 pub returns-then-na-gt3 : goal.returns-then-na-gt3
 returns-then-na-gt3 c =
     let a = c.args in
-    rw (laid_is a.g a.list.now a.na a.nu a.pointer c.??pre) (simp (lt-leb _ _ c.if-na-gt3.taken))
+    rw (laid_is a.g a.list.now a.na a.nu a.pointer c.requires) (simp (lt-leb _ _ c.if-na-gt3.true))
 
 pub returns-then-not-blocks_new : goal.returns-then-not-blocks_new
 returns-then-not-blocks_new c =
     let a = c.args in
-    let n : all_heads (new_block a.g) [] a.list.now ≡ false = sym c.blocks_new.ensures ∙ not-true c.blocks_new.result c.if-not-blocks_new.taken in
-    rw (laid_is a.g a.list.now a.na a.nu a.pointer c.??pre) (simp (le-leb _ _ c.if-na-gt3.left, n))
+    let n : all_heads (new_block a.g) [] a.list.now ≡ false = sym c.blocks_new.ensures ∙ c.if-not-blocks_new.true in
+    rw (laid_is a.g a.list.now a.na a.nu a.pointer c.requires) (simp (le-leb _ _ c.if-na-gt3.false, n))
 
 pub returns-then-not-is_rising : goal.returns-then-not-is_rising
 returns-then-not-is_rising c =
     let a = c.args in
-    let n : all_heads (new_block a.g) [] a.list.now ≡ true = sym c.blocks_new.ensures ∙ not-false c.blocks_new.result c.if-not-blocks_new.left in
-    let r : rising (drop (a.na + a.nu) a.list.now) ≡ false = ap rising (sym (drop_rest a.list.now (a.na + a.nu))) ∙ sym c.is_rising.ensures ∙ not-true c.is_rising.result c.if-not-is_rising.taken in
-    rw (laid_is a.g a.list.now a.na a.nu a.pointer c.??pre) (simp (le-leb _ _ c.if-na-gt3.left, n, r))
+    let n : all_heads (new_block a.g) [] a.list.now ≡ true = sym c.blocks_new.ensures ∙ c.if-not-blocks_new.false in
+    let r : rising (drop (a.na + a.nu) a.list.now) ≡ false = ap rising (sym (drop_rest a.list.now (a.na + a.nu))) ∙ sym c.is_rising.ensures ∙ c.if-not-is_rising.true in
+    rw (laid_is a.g a.list.now a.na a.nu a.pointer c.requires) (simp (le-leb _ _ c.if-na-gt3.false, n, r))
 
 pub returns-then-pointer-lt-FIRST : goal.returns-then-pointer-lt-FIRST
 unfolding data_block
 returns-then-pointer-lt-FIRST c =
     let a = c.args in
-    let n : all_heads (new_block a.g) [] a.list.now ≡ true = sym c.blocks_new.ensures ∙ not-false c.blocks_new.result c.if-not-blocks_new.left in
-    let r : rising (drop (a.na + a.nu) a.list.now) ≡ true = ap rising (sym (drop_rest a.list.now (a.na + a.nu))) ∙ sym c.is_rising.ensures ∙ not-false c.is_rising.result c.if-not-is_rising.left in
-    rw (laid_is a.g a.list.now a.na a.nu a.pointer c.??pre) (simp (le-leb _ _ c.if-na-gt3.left, n, r, lt-leb _ _ c.if-pointer-lt-FIRST.taken))
+    let n : all_heads (new_block a.g) [] a.list.now ≡ true = sym c.blocks_new.ensures ∙ c.if-not-blocks_new.false in
+    let r : rising (drop (a.na + a.nu) a.list.now) ≡ true = ap rising (sym (drop_rest a.list.now (a.na + a.nu))) ∙ sym c.is_rising.ensures ∙ c.if-not-is_rising.false in
+    rw (laid_is a.g a.list.now a.na a.nu a.pointer c.requires) (simp (le-leb _ _ c.if-na-gt3.false, n, r, lt-leb _ _ c.if-pointer-lt-FIRST.true))
 
 pub returns : goal.returns
 unfolding data_block
 returns c =
     let a = c.args in
-    let n : all_heads (new_block a.g) [] a.list.now ≡ true = sym c.blocks_new.ensures ∙ not-false c.blocks_new.result c.if-not-blocks_new.left in
-    let r : rising (drop (a.na + a.nu) a.list.now) ≡ true = ap rising (sym (drop_rest a.list.now (a.na + a.nu))) ∙ sym c.is_rising.ensures ∙ not-false c.is_rising.result c.if-not-is_rising.left in
-    rw (laid_is a.g a.list.now a.na a.nu a.pointer c.??pre) (simp (le-leb _ _ c.if-na-gt3.left, n, r, le-leb _ _ c.if-pointer-lt-FIRST.left))
+    let n : all_heads (new_block a.g) [] a.list.now ≡ true = sym c.blocks_new.ensures ∙ c.if-not-blocks_new.false in
+    let r : rising (drop (a.na + a.nu) a.list.now) ≡ true = ap rising (sym (drop_rest a.list.now (a.na + a.nu))) ∙ sym c.is_rising.ensures ∙ c.if-not-is_rising.false in
+    rw (laid_is a.g a.list.now a.na a.nu a.pointer c.requires) (simp (le-leb _ _ c.if-na-gt3.false, n, r, le-leb _ _ c.if-pointer-lt-FIRST.false))

@@ -10,13 +10,13 @@ use Rattle.ranges.proofs.map_ok.Goals as goal
 
 pub overflow_mul-hi : goal.overflow_mul-hi
 overflow_mul-hi c =
-    let h = geometry_in c.args.g c.??pre in
+    let h = geometry_in c.args.g c.requires in
     let m : c.args.g.blocks * c.args.g.pages ≤ 128 * 64 = mul-le-mul h.blocks_most h.pages_most in
     omega arith
 
 pub entries_ok-requires : goal.entries_ok-requires
 entries_ok-requires c =
-    let h = geometry_in c.args.g c.??pre in
+    let h = geometry_in c.args.g c.requires in
     let m : c.args.g.blocks * c.args.g.pages ≤ 128 * 64 = mul-le-mul h.blocks_most h.pages_most in
     omega arith
 

@@ -3,7 +3,7 @@ use borrow.Author.Tests.{eq-eqb, ne_eqb}
 use Rattle.ranges.proofs.planes_ok.Goals as goal
 
 pub returns-then-planes-eq1 : goal.returns-then-planes-eq1
-returns-then-planes-eq1 c = simp (eq-eqb _ _ c.if-planes-eq1.taken)
+returns-then-planes-eq1 c = simp (eq-eqb _ _ c.if-planes-eq1.true)
 
 pub returns : goal.returns
-returns c = simp (ne_eqb _ _ c.if-planes-eq1.left)
+returns c = simp (ne_eqb _ _ c.if-planes-eq1.false)

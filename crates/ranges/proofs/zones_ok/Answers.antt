@@ -40,20 +40,20 @@ module _ (s : lts.Start (listed-reads.Asked, listed-reads.Learnt, lists-ok-reads
 
 pub overflow_sub-g : goal.overflow_sub-g
 overflow_sub-g c =
-    let h = geometry_in c.args.g c.??pre in
+    let h = geometry_in c.args.g c.requires in
     omega arith
 
 pub returns-then-na-nu : goal.returns-then-na-nu
 unfolding zones_ok zone_lists_ok
-returns-then-na-nu c = simp (lt-leb _ _ c.if-na-nu.taken)
+returns-then-na-nu c = simp (lt-leb _ _ c.if-na-nu.true)
 
 pub returns-then-na-gt3 : goal.returns-then-na-gt3
 unfolding zones_ok zone_lists_ok
-returns-then-na-gt3 c = simp (le-leb _ _ c.if-na-nu.left, lt-leb _ _ c.if-na-gt3.taken)
+returns-then-na-gt3 c = simp (le-leb _ _ c.if-na-nu.false, lt-leb _ _ c.if-na-gt3.true)
 
 pub listed-all-requires : goal.listed-all-requires
 listed-all-requires c =
-    let h = geometry_in c.args.g c.??pre in
+    let h = geometry_in c.args.g c.requires in
     record { available = omega arith; all = omega arith }
 
 pub slice_bounds-list-end : goal.slice_bounds-list-end
@@ -74,14 +74,14 @@ pub lists_ok-requires : goal.lists_ok-requires
 lists_ok-requires c =
     let l = listed-long c (omega arith) (omega arith) in
     let m = ap length (kept_list c.listed-all.result (listed_in c.args.z) c.listed-all.ensures) in
-    record { shape = c.??pre; parts = omega arith; all = omega arith }
+    record { shape = c.requires; parts = omega arith; all = omega arith }
 
 pub returns : goal.returns
 unfolding zones_ok
 returns c =
     let z = c.args.z in
     let g = c.args.g in
-    let h = geometry_in g c.??pre in
+    let h = geometry_in g c.requires in
     let la = available-long c in
     let lu = unavailable-long c in
     let lf = free-long c in

@@ -7,7 +7,7 @@ use borrow.Author.Rules.{rules}
 use Rattle.text.proofs.put_number.Goals as goal
 
 pub put-requires : goal.put-requires
-put-requires c = omega (arith, few_digits c.decimal-k.new.out c.decimal-k.result c.args.n c.ranges.n.fits c.decimal-k.ensures.len (sym (length-take-le c.decimal-k.result c.decimal-k.new.out c.decimal-k.ensures.in_bounds)))
+put-requires c = omega (arith, few_digits c.decimal-k.new.out c.decimal-k.result c.args.n c.ranges.n.fits c.decimal-k.ensures.len (sym (length-take-le c.decimal-k.result c.decimal-k.new.out c.decimal-k.ensures.in_bounds.0)))
 
 pub returns : goal.returns
-returns c = put_digits c.decimal-k.new.out c.ranges.n.fits (sym (length-take-le c.decimal-k.result c.decimal-k.new.out c.decimal-k.ensures.in_bounds)) c.decimal-k.ensures.len c.decimal-k.ensures.digits c.put.ensures
+returns c = put_digits c.decimal-k.new.out c.ranges.n.fits (sym (length-take-le c.decimal-k.result c.decimal-k.new.out c.decimal-k.ensures.in_bounds.0)) c.decimal-k.ensures.len c.decimal-k.ensures.digits c.put.ensures
