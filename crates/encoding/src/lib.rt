@@ -6,6 +6,8 @@
 // (2 each), 64 pages (2 each) and 64 drops (1 each): whether the page drops its logical page, 0 or 1.
 // Bytes encode a state if they are so many, kind and last plane are of these, the stride number of a kind that has none is 0, and every drop
 // is 0 or 1.
+#![tactic(auto)]
+
 ghost use Rattle.std.specs.Prelude.{◌≡◌, ◌+◌, ◌*◌, ◌≤◌, ◌<◌, length};
 ghost use Rattle.model.specs.Lists.{part};
 ghost use Rattle.model.specs.Bytes.{bytes16, bytes32};

@@ -1,4 +1,6 @@
 // The lines of the program `report`, read and put: a name, then a number or a list of blocks. It knows no array and no device.
+#![tactic(auto)]
+
 ghost use Rattle.std.specs.Prelude.{◌≡◌, ◌+◌, ◌*◌, ◌≤◌, length, take};
 ghost use Rattle.lines.specs.Input.{value_from, line_of, line_in, taken};
 ghost use Rattle.text.specs.Text.{Put};

@@ -1,4 +1,6 @@
 // The lines that tell of a recovery that is done: the answer, the state, the map and the number of torn pages.
+#![tactic(auto)]
+
 ghost use Rattle.std.specs.Prelude.{◌≡◌, ◌+◌, ◌≤◌, length};
 ghost use Rattle.text.specs.Text.{Put};
 ghost use Rattle.outcome.specs.Text.{mapped_in, zones_text, counts_text, state_text, answer_text};

@@ -1,4 +1,6 @@
 // Free blocks: taken for the available list, and given back.
+#![tactic(auto)]
+
 ghost use Rattle.std.specs.Prelude.{◌≡◌, true, ◌+◌, ◌-◌, ◌≤◌, ◌<◌};
 ghost use Rattle.model.specs.Lists.{up_from};
 ghost use Rattle.model.specs.Geometry.{geometry_ok};

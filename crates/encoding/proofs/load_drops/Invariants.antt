@@ -1,0 +1,17 @@
+-- `encoding::load_drops` meets its contract. The loop's invariant: the first i drops stand in the list. Assumes nothing.
+use mathlib.Core.Path.{refl}
+use Prim.Native.Nat.{ℕ, ◌+◌, ◌-◌, ◌≤◌}
+use native.Mathlib.Omega.{arith}
+use lib.ListN.{length}
+use borrow.Author.Rules.{rules}
+use Rattle.model.specs.Lists.{part}
+use Rattle.encoding.specs.Encoding.{drops_from}
+use Rattle.page.proofs.Taken.{Filling, filling_none, filling_more, filling_all}
+use Rattle.encoding.proofs.Taken.{drops_more}
+use Rattle.encoding.proofs.load_drops.Given as goal
+
+abbrev pub invariant-loop-i : goal.invariant-loop-i
+invariant-loop-i l = (l.at + length l.initial.list ≤ length l.from) × Filling (λ (j : ℕ). drops_from (part l.at j l.from)) (length l.initial.list) l.i l.list
+
+abbrev pub decreases-loop-i : goal.decreases-loop-i
+decreases-loop-i l = length l.initial.list - l.i

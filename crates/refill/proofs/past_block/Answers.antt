@@ -1,0 +1,21 @@
+-- `refill::past_block` meets its contract: a device has no block past 128. Assumes nothing.
+use native.Mathlib.Omega.{arith}
+use borrow.Author.Rules.{rules}
+use borrow.Author.Tests.{lt-ltb, le-ltb}
+use Rattle.model.specs.Zones.{past_block}
+use Rattle.arrays.specs.Ranges.{geometry_in}
+use Rattle.refill.proofs.past_block.Goals as goal
+
+pub overflow_add-result : goal.overflow_add-result
+overflow_add-result c =
+    let h = geometry_in c.args.g c.requires.0 in
+    let b = h.blocks_most in
+    omega arith
+
+pub returns-then-next-g : goal.returns-then-next-g
+unfolding past_block
+returns-then-next-g c = simp (lt-ltb _ _ c.if-next-g.true)
+
+pub returns : goal.returns
+unfolding past_block
+returns c = simp (le-ltb _ _ c.if-next-g.false)
