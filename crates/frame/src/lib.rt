@@ -1,4 +1,6 @@
 // Refusals 1 and 17: whether a state may be, with the buffers lent beside it, and whether another command's work is under way.
+#![tactic(auto)]
+
 ghost use Rattle.std.specs.Prelude.{◌≡◌, true, ℕ, ◌+◌, ◌-◌, ◌*◌, ◌≤◌, ◌<◌, take, drop, get_or, ltb};
 ghost use Rattle.model.specs.Answers.{number};
 ghost use Rattle.model.specs.Lists.{all};

@@ -2,6 +2,8 @@
 // An identifier is compared before a page is classed, so a page is classed only where its answer counts.
 // A slide first lists the identifiers on whole pages of the near blocks, those still available: 3 of at most 64 pages, so at most 192. From
 // then on it compares numbers from spare areas, and a page of another block is classed, once, where its identifier is wanted.
+#![tactic(auto)]
+
 ghost use Rattle.std.specs.Prelude.{◌≡◌, true, cond, ◌+◌, ◌*◌, ◌≤◌, ◌<◌, [], ◌∷◌, ◌++◌, length, take, get_or};
 ghost use Rattle.model.specs.Lists.{any, keep, those, count, up_from};
 ghost use Rattle.model.specs.Page.{torn_at};

@@ -29,10 +29,10 @@ pub returns : goal.returns
 unfolding place_bytes
 returns c =
     let g = c.args in
-    let k : length g.t3.lpns ≡ 64 = search rules in
-    let m : length g.t3.ppns ≡ 64 = search rules in
-    let d : length g.t3.drops ≡ 64 = search rules in
-    let one = laid_one c.put_word.ensures _ g.t3.count refl (omega arith) in
+    let k : length g.p.lpns ≡ 64 = search rules in
+    let m : length g.p.ppns ≡ 64 = search rules in
+    let d : length g.p.drops ≡ 64 = search rules in
+    let one = laid_one c.put_word.ensures _ g.p.count refl (omega arith) in
     let two = laid_join one (laid_size 128 c.put_halves.ensures (omega arith)) refl in
     let three = laid_join two (laid_size 128 c.put_halves-2.ensures (omega arith)) refl in
     laid_join three (laid_size 64 c.put_drops.ensures d) refl

@@ -33,11 +33,11 @@ pub returns : goal.returns
 unfolding zone_bytes
 returns c =
     let g = c.args in
-    let a : length g.t2.available ≡ 3 = search rules in
-    let u : length g.t2.unavailable ≡ 126 = search rules in
-    let f : length g.t2.free ≡ 126 = search rules in
+    let a : length g.z.available ≡ 3 = search rules in
+    let u : length g.z.unavailable ≡ 126 = search rules in
+    let f : length g.z.free ≡ 126 = search rules in
     let h : length g.to.now ≡ 2881 = c.requires in
-    let one = laid_one (laid_size 3 c.put_bytes.ensures a) 11 g.t2.na refl (omega arith) in
-    let two = laid_one (laid_join one (laid_size 126 c.put_bytes-2.ensures u) refl) 138 g.t2.nu refl (omega arith) in
-    let three = laid_one (laid_join two (laid_size 126 c.put_bytes-3.ensures f) refl) 265 g.t2.nf refl (omega arith) in
-    laid_one three 266 g.t2.pointer refl (omega arith)
+    let one = laid_one (laid_size 3 c.put_bytes.ensures a) 11 g.z.na refl (omega arith) in
+    let two = laid_one (laid_join one (laid_size 126 c.put_bytes-2.ensures u) refl) 138 g.z.nu refl (omega arith) in
+    let three = laid_one (laid_join two (laid_size 126 c.put_bytes-3.ensures f) refl) 265 g.z.nf refl (omega arith) in
+    laid_one three 266 g.z.pointer refl (omega arith)

@@ -1,0 +1,19 @@
+-- `frame::places_ok` meets its contract. The loop's invariant: the places before the `i`-th are in range, and none shares an identifier with a later one. Assumes nothing.
+use mathlib.Core.Path.{◌≡◌, refl, sym, ap, ◌∙◌}
+use Prim.Native.Nat.{◌+◌, ◌-◌, ◌≤◌}
+use lib.ListN.{length, drop, get_or}
+use native.Mathlib.Omega.{arith}
+use borrow.Author.Tests.{not-true, not-false}
+use Rattle.model.specs.Lists.{all_tails}
+use Rattle.model.specs.Frame.{no_place, places_ok}
+use Rattle.blocks.proofs.Loops.{tails_pass, tails_fail, tails_end}
+use Rattle.frame.specs.Ids.{id_alone}
+use Rattle.frame.proofs.Places.{place_among, alone_ids}
+use borrow.Author.Rules.{rules}
+use Rattle.frame.proofs.places_ok.Given as goal
+
+abbrev pub invariant-loop-i : goal.invariant-loop-i
+invariant-loop-i l = (l.i ≤ 8) × ((length l.ps ≡ 8) × (all_tails (place_among l.g) l.ps ≡ all_tails (place_among l.g) (drop l.i l.ps)))
+
+abbrev pub decreases-loop-i : goal.decreases-loop-i
+decreases-loop-i l = 8 - l.i
