@@ -1,4 +1,6 @@
 // The pages of a checkpoint, and the newest complete one.
+#![tactic(auto)]
+
 ghost use Rattle.std.specs.Prelude.{◌≡◌, true, cond, ◌&&◌, ◌+◌, ◌-◌, ◌*◌, ◌≤◌, ◌<◌, length, get_or};
 ghost use Rattle.model.specs.Geometry.{unmapped};
 ghost use Rattle.model.specs.Checkpoint.{map_bytes, map_spare, zone_spare, zone_data, same_spare, page_is, maps_at, number_at, complete_at, at, newer, newest_from, newest};

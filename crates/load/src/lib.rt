@@ -1,4 +1,6 @@
 // What is read back from a checkpoint, and refusal 3.
+#![tactic(auto)]
+
 ghost use Rattle.std.specs.Prelude.{◌≡◌, true, ◌&&◌, ◌+◌, ◌-◌, ◌*◌, ◌≤◌, ◌<◌, ◌++◌, length, replicate, take, drop, eqb};
 ghost use Rattle.model.specs.Lists.{all};
 ghost use Rattle.model.specs.Bytes.{words};

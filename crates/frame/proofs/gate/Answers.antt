@@ -10,22 +10,22 @@ pub returns-then-not-frame_ok : goal.returns-then-not-frame_ok
 returns-then-not-frame_ok c =
     let a = c.args in
     let w : World = record { array = a.array.now; map = a.map.now; hold = a.hold.now; state = a.s } in
-    sym (gate_bad w a.own_val (sym c.frame_ok.ensures ∙ c.if-not-frame_ok.true))
+    sym (gate_bad w a.own (sym c.frame_ok.ensures ∙ c.if-not-frame_ok.true))
 
 pub returns-then-own : goal.returns-then-own
 returns-then-own c =
     let a = c.args in
     let w : World = record { array = a.array.now; map = a.map.now; hold = a.hold.now; state = a.s } in
-    sym (gate_own w a.own_val (sym c.frame_ok.ensures ∙ c.if-not-frame_ok.false) c.if-own.true)
+    sym (gate_own w a.own (sym c.frame_ok.ensures ∙ c.if-not-frame_ok.false) c.if-own.true)
 
 pub returns-then-is_idle : goal.returns-then-is_idle
 returns-then-is_idle c =
     let a = c.args in
     let w : World = record { array = a.array.now; map = a.map.now; hold = a.hold.now; state = a.s } in
-    sym (gate_idle w a.own_val (sym c.frame_ok.ensures ∙ c.if-not-frame_ok.false) (sym c.is_idle.ensures ∙ c.if-is_idle.true))
+    sym (gate_idle w a.own (sym c.frame_ok.ensures ∙ c.if-not-frame_ok.false) (sym c.is_idle.ensures ∙ c.if-is_idle.true))
 
 pub returns : goal.returns
 returns c =
     let a = c.args in
     let w : World = record { array = a.array.now; map = a.map.now; hold = a.hold.now; state = a.s } in
-    sym (gate_busy w a.own_val (sym c.frame_ok.ensures ∙ c.if-not-frame_ok.false) (sym c.is_idle.ensures ∙ c.if-is_idle.false) c.if-own.false)
+    sym (gate_busy w a.own (sym c.frame_ok.ensures ∙ c.if-not-frame_ok.false) (sym c.is_idle.ensures ∙ c.if-is_idle.false) c.if-own.false)

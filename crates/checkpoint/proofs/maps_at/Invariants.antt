@@ -1,0 +1,14 @@
+-- `checkpoint::maps_at` meets its contract. The loop's invariant: the first `i` pages are as they should be. Assumes nothing.
+use mathlib.Core.Path.{◌≡◌, ap, sym, ◌∙◌}
+use Prim.Native.Nat.{◌+◌, ◌-◌, ◌≤◌}
+use native.Mathlib.Omega.{arith}
+use borrow.Author.Tests.{not-true, not-false}
+use Rattle.model.specs.Checkpoint.{page_is, maps_at}
+use Rattle.checkpoint.proofs.Maps.{maps_start, maps_pass, maps_fail, maps_end}
+use Rattle.checkpoint.proofs.maps_at.Given as goal
+
+abbrev pub invariant-loop-i : goal.invariant-loop-i
+invariant-loop-i l = (l.i ≤ l.m) × (maps_at l.array l.k 0 l.c l.m ≡ maps_at l.array (l.k + l.i) l.i l.c (l.m - l.i))
+
+abbrev pub decreases-loop-i : goal.decreases-loop-i
+decreases-loop-i l = l.m - l.i

@@ -1,0 +1,44 @@
+-- `checkpoint::newest_from` meets its contract. The loop's invariant: `found` is the newest that starts on the first `i` pages. Assumes nothing.
+use mathlib.Core.Bool.{◌&&◌}
+use mathlib.Core.Path.{◌≡◌, sym}
+use Prim.Native.Nat.{◌+◌, ◌-◌, ◌≤◌}
+use native.Mathlib.Omega.{arith}
+use lib.ListN.{length}
+use Rattle.model.specs.Checkpoint.{complete_at, newer, newest_from}
+use Rattle.checkpoint.proofs.Search.{found_start, found_more, found_end, in_better}
+use Rattle.checkpoint.specs.Found.{found_of, FoundIn}
+use Rattle.checkpoint.proofs.newest_from.Goals as goal
+
+pub loop-i-init : goal.loop-i-init
+loop-i-init c =
+    let a = c.args in
+    (omega arith, (c.requires.1.1.0.before, found_start a.array.now a.m a.k a.n (found_of a.best)))
+
+pub overflow_add-k : goal.overflow_add-k
+overflow_add-k c = omega arith
+
+pub better-found-requires : goal.better-found-requires
+better-found-requires c = (omega arith, (omega arith, (record { here = omega arith; before = c.loop-i.invariant.1.0 }, c.requires.1.1.1)))
+
+pub overflow_add-i : goal.overflow_add-i
+overflow_add-i c = omega arith
+
+pub loop-i-smaller : goal.loop-i-smaller
+loop-i-smaller c = omega arith
+
+pub loop-i-preserved : goal.loop-i-preserved
+loop-i-preserved c =
+    let a = c.args in
+    let best = found_of c.loop-i.found in
+    let next = found_of c.better-found.result in (
+      omega arith,
+      (
+        in_better (length a.array.now) (a.k + c.loop-i.i) (complete_at a.array.now a.m (a.k + c.loop-i.i) && newer a.array.now (a.k + c.loop-i.i) best) next best c.better-found.ensures (omega arith) c.loop-i.invariant.1.0,
+        found_more a.array.now a.m a.k a.n c.loop-i.i best next (omega arith) c.loop-i.invariant.1.1 c.better-found.ensures,
+      ),
+    )
+
+pub returns : goal.returns
+returns c =
+    let a = c.args in
+    sym (found_end a.array.now a.m a.k a.n c.loop-i.i (found_of c.loop-i.found) (omega arith) c.loop-i.invariant.1.1)

@@ -1,0 +1,16 @@
+-- `checkpoint::newest_from` meets its contract. The loop's invariant: `found` is the newest that starts on the first `i` pages. Assumes nothing.
+use mathlib.Core.Bool.{◌&&◌}
+use mathlib.Core.Path.{◌≡◌, sym}
+use Prim.Native.Nat.{◌+◌, ◌-◌, ◌≤◌}
+use native.Mathlib.Omega.{arith}
+use lib.ListN.{length}
+use Rattle.model.specs.Checkpoint.{complete_at, newer, newest_from}
+use Rattle.checkpoint.proofs.Search.{found_start, found_more, found_end, in_better}
+use Rattle.checkpoint.specs.Found.{found_of, FoundIn}
+use Rattle.checkpoint.proofs.newest_from.Given as goal
+
+abbrev pub invariant-loop-i : goal.invariant-loop-i
+invariant-loop-i l = (l.i ≤ l.n) × (FoundIn (length l.array) (found_of l.found) × (newest_from l.array l.m l.k l.n (found_of l.initial.found) ≡ newest_from l.array l.m (l.k + l.i) (l.n - l.i) (found_of l.found)))
+
+abbrev pub decreases-loop-i : goal.decreases-loop-i
+decreases-loop-i l = l.n - l.i
