@@ -11,7 +11,7 @@ use Rattle.arrays.specs.Tests.{or_left, or_right}
 use Rattle.frame.proofs.Within.{next_page_law}
 use borrow.Author.Rules.{rules}
 use Rattle.frame.proofs.checkpoint_stride_ok.Goals as goal
-use Rattle.frame.proofs.checkpoint_stride_ok.Goals.{then-n-eq0, else-n-eq0}
+use Rattle.frame.proofs.checkpoint_stride_ok.Goals.{then-n-eq0+else-q-ne0, else-n-eq0}
 
 pub returns-then-n-m : goal.returns-then-n-m
 unfolding checkpoint_stride_ok
@@ -54,7 +54,7 @@ returns c =
     let a = c.args in
     let b : (not (eqb a.k 0) || eqb a.first 0) ≡ true = 
         elim c.if-n-eq0.branch [
-          then-n-eq0 t ↦ or_right (not (eqb a.k 0)) (eqb a.first 0) (eq-eqb a.first 0 t.if-q-ne0.false)
+          then-n-eq0+else-q-ne0 t ↦ or_right (not (eqb a.k 0)) (eqb a.first 0) (eq-eqb a.first 0 t.if-q-ne0.false)
         | else-n-eq0 t ↦ or_left (not (eqb a.k 0)) (eqb a.first 0) (ap not (ne_eqb a.k 0 t.if-n-eq0.false))
         ] in
     simp (← c.map_pages-m.ensures, le-leb _ _ c.if-n-m.false, lt-ltb _ _ c.if-q-m.false, b, c.is_blank.ensures)
