@@ -1,4 +1,6 @@
 // Read: what it answers, and the part of the array that it hands back.
+#![tactic(auto)]
+
 ghost use Rattle.std.specs.Prelude.{◌≡◌};
 ghost use Rattle.model.specs.Answers.{number};
 ghost use Rattle.model.specs.Transactions.{read_answer, read_part};

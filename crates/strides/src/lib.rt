@@ -1,5 +1,7 @@
 // The strides of a checkpoint: each does at most one program or erase.
 // What a stride returns is its answer and the state; it leaves the hold alone.
+#![tactic(auto)]
+
 ghost use Rattle.std.specs.Prelude.{◌≡◌, true, ◌<◌};
 ghost use Rattle.model.specs.Geometry.{map_pages};
 ghost use Rattle.model.specs.Answers.{number, in_table};
