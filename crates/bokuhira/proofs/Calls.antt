@@ -21,11 +21,11 @@ use Rattle.bokuhira.specs.Calls.{Result, world_of, world_from, result_of, bad_fr
 use Rattle.bokuhira.specs.PowerUp.{blind}
 
 -- ---- whether bytes encode a state, as the test on them tells
-pub uncoded : (bs : List ℕ) (t : Bool) → t ≡ encodes bs → not t ≡ true → encodes bs ≡ false
-uncoded bs t e h = sym e ∙ not-true t h
+pub uncoded : (bs : List ℕ) (t : Bool) → t ≡ encodes bs → t ≡ false → encodes bs ≡ false
+uncoded bs t e h = sym e ∙ h
 
-pub coded : (bs : List ℕ) (t : Bool) → t ≡ encodes bs → not t ≡ false → encodes bs ≡ true
-coded bs t e h = sym e ∙ not-false t h
+pub coded : (bs : List ℕ) (t : Bool) → t ≡ encodes bs → t ≡ true → encodes bs ≡ true
+coded bs t e h = sym e ∙ h
 
 -- if so, they are as many as a state has
 pub coded_long : (bs : List ℕ) → encodes bs ≡ true → length bs ≡ 2881
@@ -83,14 +83,14 @@ unfolding start_from
 start_fresh g bs t s e h f = rw (← e, h) f
 
 -- of another number of bytes, as the test on them tells
-pub unstarted : (c : Geometry → Call) (g : Geometry) (xs map hold bs : List ℕ) (t : Bool) → t ≡ sized bs → not t ≡ true → bad_frame xs map hold bs ≡ started c g xs map hold bs
+pub unstarted : (c : Geometry → Call) (g : Geometry) (xs map hold bs : List ℕ) (t : Bool) → t ≡ sized bs → t ≡ false → bad_frame xs map hold bs ≡ started c g xs map hold bs
 unfolding started
-unstarted c g xs map hold bs t e h = rw (← e, not-true t h)
+unstarted c g xs map hold bs t e h = rw (← e, h)
 
 -- of as many as a state has
-pub long : (bs : List ℕ) (t : Bool) → t ≡ sized bs → not t ≡ false → length bs ≡ 2881
+pub long : (bs : List ℕ) (t : Bool) → t ≡ sized bs → t ≡ true → length bs ≡ 2881
 unfolding sized
-long bs t e h = eqb-true (length bs) 2881 (sym e ∙ not-false t h)
+long bs t e h = eqb-true (length bs) 2881 (sym e ∙ h)
 
 pub start_met : (c : Geometry → Call) (g : Geometry) (xs map hold bs : List ℕ) (s t : State) (n r : ℕ) (ys map2 hold2 cs : List ℕ) → length bs ≡ 2881 → s ≡ start_from g bs
     → ◌≡◌ {A = Outcome} (record { answer = n; world = world_of ys map2 hold2 t }) (exec (c g) (world_of xs map hold s))

@@ -44,11 +44,11 @@ unfolding mapped
 mapped_is g x e u = rw (ne_eqb x unmapped u) at e
 
 -- what the test of the frame tells
-pub frame_failed : (w : World) (ok : Bool) → ok ≡ frame_ok w → not ok ≡ true → frame_ok w ≡ false
-frame_failed w ok e t = sym e ∙ not-true ok t
+pub frame_failed : (w : World) (ok : Bool) → ok ≡ frame_ok w → ok ≡ false → frame_ok w ≡ false
+frame_failed w ok e t = sym e ∙ t
 
-pub frame_passed : (w : World) (ok : Bool) → ok ≡ frame_ok w → not ok ≡ false → frame_ok w ≡ true
-frame_passed w ok e t = sym e ∙ not-false ok t
+pub frame_passed : (w : World) (ok : Bool) → ok ≡ frame_ok w → ok ≡ true → frame_ok w ≡ true
+frame_passed w ok e t = sym e ∙ t
 
 module _ (w : World) (lpn : ℕ) where
   -- ---- the answer

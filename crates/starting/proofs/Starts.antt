@@ -22,41 +22,41 @@ use Rattle.recover.specs.Recovering.{Standing, from_plan}
 
 -- lent and ok being what their tests say
 module _ (g : Geometry) (w : World) (lent : Bool) (e : lent ≡ (geometry_ok g && lengths_ok g w.array w.map w.hold)) where
-  pub format_not_lent : not lent ≡ true → 1 ≡ first_number (format_checks g w)
+  pub format_not_lent : lent ≡ false → 1 ≡ first_number (format_checks g w)
   unfolding first_number lent_ok
-  format_not_lent z = rw (← e, not-true lent z)
+  format_not_lent z = rw (← e, z)
 
-  module _ (z : not lent ≡ false) where
+  module _ (z : lent ≡ true) where
     lent_ok_law : lent_ok g w ≡ true
     unfolding lent_ok
-    lent_ok_law = sym e ∙ not-false lent z
+    lent_ok_law = sym e ∙ z
 
     pub format_sized : Sized g w.array
     format_sized =
-        let h = sym e ∙ not-false lent z in
+        let h = sym e ∙ z in
         record { shape = and_left (geometry_ok g) _ h; bytes = (lengths_in g w.array w.map w.hold (and_right (geometry_ok g) _ h)).array }
 
     module _ (ok : Bool) (o : ok ≡ format_work_ok g w w.state.work) where
-      pub format_bad_work : not ok ≡ true → 1 ≡ first_number (format_checks g w)
+      pub format_bad_work : ok ≡ false → 1 ≡ first_number (format_checks g w)
       unfolding first_number
-      format_bad_work y = rw (lent_ok_law, ← o, not-true ok y)
+      format_bad_work y = rw (lent_ok_law, ← o, y)
 
-      pub format_passes : not ok ≡ false → 0 ≡ first_number (format_checks g w)
+      pub format_passes : ok ≡ true → 0 ≡ first_number (format_checks g w)
       unfolding first_number
-      format_passes y = rw (lent_ok_law, ← o, not-false ok y)
+      format_passes y = rw (lent_ok_law, ← o, y)
 
-  pub recover_not_lent : not lent ≡ true → plan (recover g) w ≡ refuse w 1
+  pub recover_not_lent : lent ≡ false → plan (recover g) w ≡ refuse w 1
   unfolding plan plan_recover first_number lent_ok
-  recover_not_lent z = rw (← e, not-true lent z)
+  recover_not_lent z = rw (← e, z)
 
   -- the newest complete checkpoint, looked for in the array
-  module _ (z : not lent ≡ false) (m : ℕ) (maps : m ≡ map_pages g) where
+  module _ (z : lent ≡ true) (m : ℕ) (maps : m ≡ map_pages g) where
     long : InLengths g w.array w.map w.hold
-    long = lengths_in g w.array w.map w.hold (and_right (geometry_ok g) _ (sym e ∙ not-false lent z))
+    long = lengths_in g w.array w.map w.hold (and_right (geometry_ok g) _ (sym e ∙ z))
 
     pub searchable : (2 * g.pages * 528 ≤ length w.array) × ((m ≤ 4) × (8 ≤ g.pages))
     searchable =
-        let shape = geometry_in g (and_left (geometry_ok g) _ (sym e ∙ not-false lent z)) in
+        let shape = geometry_in g (and_left (geometry_ok g) _ (sym e ∙ z)) in
         let few : m ≤ 4 = rw maps (maps_few g shape) in
         let fits = front_fits g w.array long.array shape 1 (omega arith) in
         (omega arith, (few, shape.pages_least))
@@ -74,4 +74,4 @@ module _ (g : Geometry) (w : World) (lent : Bool) (e : lent ≡ (geometry_ok g &
       standing k f =
           let s = searchable in
           let a = newest_fits w.array m g.pages k (omega arith) (sym n ∙ f) in
-          record { shape = and_left (geometry_ok g) _ (sym e ∙ not-false lent z); bytes = long.array; mapped = long.map; ends = rw maps at a }
+          record { shape = and_left (geometry_ok g) _ (sym e ∙ z); bytes = long.array; mapped = long.map; ends = rw maps at a }

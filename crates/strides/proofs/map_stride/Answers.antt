@@ -22,7 +22,7 @@ overflow_add-k-2 c =
     omega arith
 
 pub program_at-requires : goal.program_at-requires
-program_at-requires c = ((page_inside _ _ _ _ _ c.requires.0).fits, sym (slice-aggregate-program-at c))
+program_at-requires c = ((page_inside _ _ _ _ _ c.requires.0).fits, search rules)
 
 pub overflow_cast-q : goal.overflow_cast-q
 overflow_cast-q c =

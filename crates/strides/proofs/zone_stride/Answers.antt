@@ -26,7 +26,7 @@ overflow_add-k-2 c =
     omega arith
 
 pub program_at-requires : goal.program_at-requires
-program_at-requires c = ((page_inside _ _ _ _ _ c.requires).fits, sym (slice-aggregate-program-at c))
+program_at-requires c = ((page_inside _ _ _ _ _ c.requires).fits, search rules)
 
 pub returns : goal.returns
 returns c = zone_strode c.args.s c.args.array.now c.args.map.now c.args.q c.args.i c.requires.blank _ _ _ c.program_at.ensures _ refl _ c.slide-z.ensures c.zone_data-d.ensures _ c.map_pages.ensures c.zone_spare-spare.ensures _ _ _ c.with_work-t1.ensures c.with_zones-t2.ensures c.with_number-t3.ensures
