@@ -1,4 +1,6 @@
 // The pages of a change: held, programmed and entered in the map. Refusals have been looked at before.
+#![tactic(auto)]
+
 ghost use Rattle.std.specs.Prelude.{◌≡◌, true, cond, ℕ, ◌+◌, ◌*◌, ◌/◌, ◌≤◌, ◌<◌, length, get_or, take, leb, ltb, eqb};
 ghost use Rattle.model.specs.Lists.{all, those};
 ghost use Rattle.model.specs.Page.{page_bytes};

@@ -1,6 +1,8 @@
 // What a recovery applies: the committed transactions above the floor, by rising version. They are entered in any order: for each logical page
 // the best version so far is kept, and a page enters where its own is not below it. So the pages of changes are taken as they stand sorted by
 // TxID, one run of an identifier after the other, each in turn, and then the lone pages. It takes the same steps for any versions.
+#![tactic(auto)]
+
 ghost use Rattle.std.specs.Prelude.{◌≡◌, ◌+◌, ◌*◌, ◌≤◌, ◌<◌, max, length, drop, get_or};
 ghost use Rattle.model.specs.Zones.{Entry, scan_in};
 ghost use Rattle.model.specs.Recovery.{top, redone};

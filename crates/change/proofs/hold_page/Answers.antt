@@ -9,42 +9,15 @@ use lib.Seq.{take_all, drop-drop}
 use Rattle.model.specs.Lists.{splice}
 use Rattle.model.specs.Transactions.{hold_with}
 use borrow.Author.Rules.{rules}
-use Rattle.change.proofs.hold_page.Statement.{statement}
-use Rattle.change.proofs.hold_page.Tie as tie
+use Rattle.change.proofs.hold_page.Goals as goal
 
-mul-a : tie.Need-overflow-mul-a
-mul-a c = search rules
-
-add-e : tie.Need-overflow-add-e
-add-e c = search rules
-
-sub-copy : tie.Need-overflow-sub-copy
-sub-copy c = search rules
-
-part-copy-start : tie.Need-slice-bounds-copy-start
-part-copy-start c = search rules
-
-part-copy-end : tie.Need-slice-bounds-copy-end
-part-copy-end c = search rules
-
-copy-requires : tie.Need-copy-requires
-copy-requires c κs = search rules
-
-same_length : tie.Need-same-length
-same_length c = search rules
-
-returns : tie.Need-returns
+pub returns : goal.returns
 unfolding hold_with splice
 returns c =
-    let g = c.before.before.before.before.before.before.args in
+    let g = c.args in
     let d = g.«data».now in
     let a = 512 * g.i in
     let t : take (length d) d ≡ d = take_all (length d) d (omega arith) in
     let l : length (take (a + 512 - a) (drop a g.hold.now)) ≤ length d = simp (length-take, length-drop) (omega arith) in
     let z : drop (length d) (take (a + 512 - a) (drop a g.hold.now)) ≡ [] = drop_of_length-le _ l in
-    rw (c.before.before.copy.ensures.1, t, z, append-nil d, add-sub_cancel_left, drop-drop)
-
-pub hold-page-spec : {M : Type 1} → statement M
-hold-page-spec =
-    tie.close
-    (tie.spec mul-a add-e sub-copy part-copy-start part-copy-end copy-requires same_length returns)
+    rw (c.copy-n.ensures.1, t, z, append-nil d, add-sub_cancel_left, drop-drop)

@@ -1,0 +1,17 @@
+-- `change::others` meets its contract. The loop's invariant: of the first `i` blocks, those of the other plane are listed. Assumes nothing.
+use mathlib.Core.Path.{◌≡◌, refl, sym, ◌∙◌}
+use Prim.Native.Nat.{◌-◌, ◌≤◌}
+use native.Mathlib.Omega.{arith}
+use lib.ListN.{length, take}
+use borrow.Author.Tests.{not-true, not-false}
+use borrow.Author.Rules.{rules}
+use Rattle.model.specs.Lists.{those}
+use Rattle.model.specs.Zones.{other_plane}
+use Rattle.change.proofs.Next.{picked_pass, picked_more}
+use Rattle.change.proofs.others.Given as goal
+
+abbrev pub invariant-loop-i : goal.invariant-loop-i
+invariant-loop-i l = (l.m ≤ l.i) × ((l.i ≤ l.n) × ((l.n ≤ 3) × ((length l.bs ≡ 3) × ((length l.list ≡ 3) × (take l.m l.list ≡ those (other_plane l.last) (take l.i l.bs))))))
+
+abbrev pub decreases-loop-i : goal.decreases-loop-i
+decreases-loop-i l = l.n - l.i
