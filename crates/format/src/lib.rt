@@ -1,4 +1,6 @@
 // Format: how far it is, and its strides. Each does one program or erase; what a stride returns is its answer and the state.
+#![tactic(auto)]
+
 ghost use Rattle.std.specs.Prelude.{◌≡◌, List, ℕ, ◌+◌, ◌<◌, length, replicate};
 ghost use Rattle.model.specs.Answers.{number};
 ghost use Rattle.model.specs.Geometry.{same_geometry, map_pages};

@@ -19,7 +19,7 @@ invariant-loop-i l =
     × ((length l.ppns ≡ 64)
     × ((length l.drops ≡ 64)
     × ((length l.map ≡ length l.initial.map)
-    × ((all (λ (l : ℕ). ltb l (length l.initial.map)) (take l.n l.lpns) ≡ true) × (l.map ≡ entered l.initial.map l.lpns l.ppns l.drops l.i)))))))
+    × ((all (λ (x : ℕ). ltb x (length l.initial.map)) (take l.n l.lpns) ≡ true) × (l.map ≡ entered l.initial.map l.lpns l.ppns l.drops l.i)))))))
 
 abbrev pub decreases-loop-i : goal.decreases-loop-i
 decreases-loop-i l = l.n - l.i

@@ -26,7 +26,7 @@ pub overflow_cast-ppns : goal.overflow_cast-ppns
 overflow_cast-ppns c =
     let a = c.args in
     let f = frame_in a.s a.array.now a.map.now a.hold.now c.requires.0.frame in
-    let c = next_small a.s a.array.now f.ready in
+    let small = next_small a.s a.array.now f.ready in
     let e = c.next_page-k.ensures in
     omega arith
 

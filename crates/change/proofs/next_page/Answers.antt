@@ -13,25 +13,15 @@ use Rattle.arrays.specs.Scan.{taken_one}
 use borrow.Author.Rules.{rules}
 use Rattle.change.proofs.next_page.Goals as goal
 
--- what the type of the state says of its available list
-module _ (s : lts.Start (next-in-reads.Asked, next-in-reads.Learnt, others-reads.Asked, others-reads.Learnt, clean-short-reads.Asked, clean-short-reads.Learnt)
-    reads.Pre reads.Post) where
-  available-long : length s.args.s.zones.available ≡ 3
-  available-long = search rules
-
-  -- and the blocks of the other plane lie in the array
-  other-within : Within (length s.args.array.now) s.args.s.geometry.pages (those (other_plane s.args.s.last) (available_of s.args.s.zones))
-  other-within = picked_within s.args.s.geometry s.args.array.now s.args.s.zones s.pre (other_plane s.args.s.last)
-
 pub slice_bounds-a-end : goal.slice_bounds-a-end
 slice_bounds-a-end c =
-    let l = available-long c in
+    let l : length c.args.s.zones.available ≡ 3 = search rules in
     let f = (ready_listed _ _ _ c.requires).few in
     omega arith
 
 pub slice_bounds-next_in-end : goal.slice_bounds-next_in-end
 slice_bounds-next_in-end c =
-    let l = available-long c in
+    let l : length c.args.s.zones.available ≡ 3 = search rules in
     let f = (ready_listed _ _ _ c.requires).few in
     sym (length-take-le c.args.s.zones.na c.args.s.zones.available (omega arith))
 
@@ -61,17 +51,17 @@ slice_bounds-clean_short-end c =
     sym (length-take-le o.result.n o.result.list (omega arith))
 
 pub clean_short-requires : goal.clean_short-requires
-clean_short-requires c = rw c.others-other.ensures.1 (other-within c)
+clean_short-requires c = rw c.others-other.ensures.1 (picked_within c.args.s.geometry c.args.array.now c.args.s.zones c.requires (other_plane c.args.s.last))
 
 pub slice_bounds-a-end-then-clean_short : goal.slice_bounds-a-end-then-clean_short
 slice_bounds-a-end-then-clean_short c =
-    let l = available-long c in
+    let l : length c.args.s.zones.available ≡ 3 = search rules in
     let f = (ready_listed _ _ _ c.requires).few in
     omega arith
 
 pub slice_bounds-next_in-end-then-clean_short : goal.slice_bounds-next_in-end-then-clean_short
 slice_bounds-next_in-end-then-clean_short c =
-    let l = available-long c in
+    let l : length c.args.s.zones.available ≡ 3 = search rules in
     let f = (ready_listed _ _ _ c.requires).few in
     sym (length-take-le c.args.s.zones.na c.args.s.zones.available (omega arith))
 
@@ -101,7 +91,7 @@ slice_bounds-next_in-end-2 c =
     sym (length-take-le o.result.n o.result.list (omega arith))
 
 pub next_in-requires-2 : goal.next_in-requires-2
-next_in-requires-2 c = rw c.others-other.ensures.1 (other-within c)
+next_in-requires-2 c = rw c.others-other.ensures.1 (picked_within c.args.s.geometry c.args.array.now c.args.s.zones c.requires (other_plane c.args.s.last))
 
 pub returns : goal.returns
 returns c =

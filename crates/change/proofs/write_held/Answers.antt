@@ -9,5 +9,5 @@ returns-then-n-eq0 c = record { none = λ e. refl; held = λ h. absurd (omega ar
 
 pub returns : goal.returns
 returns c =
-    let e = rw (c.data_spare-spare.ensures, c.??number_of_lem.ensures) at c.program_held.ensures in
+    let e = rw (c.data_spare-spare.ensures, c.number_of-number.ensures) at c.program_held.ensures in
     record { none = λ z. absurd (omega arith); held = λ h. e }

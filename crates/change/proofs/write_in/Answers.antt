@@ -30,7 +30,7 @@ pub overflow_cast-k : goal.overflow_cast-k
 overflow_cast-k c =
     let a = c.args in
     let f = frame_in a.s a.array.now a.map.now a.hold.now c.requires.frame in
-    let c = next_small a.s a.array.now f.ready in
+    let small = next_small a.s a.array.now f.ready in
     let e = c.next_page-k.ensures in
     omega arith
 

@@ -32,7 +32,7 @@ pick-n-requires c =
 pub slice_bounds-enter_pages-end-2 : goal.slice_bounds-enter_pages-end-2
 slice_bounds-enter_pages-end-2 c =
     let r = c.pick-n in
-    sym (length-take-le r.result r.new.0 (omega (arith, r.ensures.0, c.other-2-1.given)))
+    sym (length-take-le r.result r.new.order (omega (arith, r.ensures.0, c.other-2-1.given)))
 
 pub enter_pages-requires : goal.enter_pages-requires
 enter_pages-requires c =
