@@ -1,4 +1,6 @@
 // A change opened and forgotten: a place taken, and given back. Nothing is programmed.
+#![tactic(auto)]
+
 ghost use Rattle.std.specs.Prelude.{◌≡◌, ◌||◌};
 ghost use Rattle.model.specs.Zones.{active, on_pages, scan_of};
 ghost use Rattle.model.specs.Answers.{number};
