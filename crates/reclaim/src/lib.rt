@@ -1,4 +1,6 @@
 // Reclaim: the block that it takes, and its strides.
+#![tactic(auto)]
+
 ghost use Rattle.std.specs.Prelude.{◌≡◌, true, ◌&&◌, ◌-◌, ◌/◌, ◌≤◌, ◌<◌, length, eqb, leb, ltb};
 ghost use Rattle.model.specs.Lists.{find};
 ghost use Rattle.model.specs.Geometry.{data_block};

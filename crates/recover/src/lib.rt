@@ -1,4 +1,6 @@
 // Recover, from a complete checkpoint: 3, 4, and else the map and the state that follow. It programs nothing.
+#![tactic(auto)]
+
 ghost use Rattle.std.specs.Prelude.{◌≡◌, true, ◌<◌, take};
 ghost use Rattle.model.specs.Answers.{number};
 ghost use Rattle.model.specs.Geometry.{geometry_ok};

@@ -1,4 +1,6 @@
 // The commands that write pages: the number that refuses, and else the pages of a change.
+#![tactic(auto)]
+
 ghost use Rattle.std.specs.Prelude.{◌≡◌, [], ◌∷◌};
 ghost use Rattle.model.specs.Answers.{number};
 ghost use Rattle.model.specs.Order.{first_number};
