@@ -1,5 +1,7 @@
 // The eleven commands. A device goes in and comes back, with the array, the map and the hold lent beside it.
 // Nothing is required of a caller: whatever is handed in, a command answers as document 01 (docs/PAPERS.md) says.
+#![tactic(auto)]
+
 ghost use Rattle.std.specs.Prelude.{◌≡◌};
 ghost use Rattle.model.specs.Answers.{number};
 ghost use Rattle.model.specs.Commands.{Outcome, exec, format, recover, begin, write, drop_page, lone, commit, abort, read, checkpoint, reclaim};

@@ -1,4 +1,6 @@
 // Checkpoint and reclaim: the number that refuses, and else a stride.
+#![tactic(auto)]
+
 ghost use Rattle.std.specs.Prelude.{◌≡◌};
 ghost use Rattle.model.specs.Answers.{number};
 ghost use Rattle.model.specs.Order.{first_number};

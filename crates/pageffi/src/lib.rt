@@ -1,5 +1,7 @@
 // The functions of `page`, and the classing of `table`, for programs in C or Rust, which may hand in parts of any length.
 // A part of another length is left as it is.
+#![tactic(auto)]
+
 ghost use Rattle.std.specs.Prelude.{◌≡◌, length, replicate};
 ghost use Rattle.pageffi.specs.Numbers.{classed, programmed};
 

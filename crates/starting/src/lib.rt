@@ -1,4 +1,6 @@
 // Format and recover, which take any state: refusal 1 for geometry and lengths, then a stride, or the recovery.
+#![tactic(auto)]
+
 ghost use Rattle.std.specs.Prelude.{◌≡◌};
 ghost use Rattle.model.specs.Answers.{number};
 ghost use Rattle.model.specs.Order.{first_number};
