@@ -1,4 +1,4 @@
-// The commands for callers in C or Rust (include/bokuhira.h). The array, the map, the hold and the state, as bytes (crate `encoding`), are
+// The commands for callers in C or Rust (include/bokuhira.h; crate `bokuhira_c` exports them). The array, the map, the hold and the state, as bytes (crate `encoding`), are
 // lent as slices. Nothing is required of a caller. Format and recover take any 2,881 bytes for the state, since after power-up anything
 // stands there; to the other commands bytes that encode no state are a bad frame, answered 1. An answer is a number, 0 done, 255 more, else
 // the refusal's, and a refusal leaves every slice as it was. Beside the commands stands the class of a page, for whoever looks into an array.
@@ -58,8 +58,7 @@ fn finish(state: &mut [u8], r: Reply) -> u8
 }
 
 /// One stride of a format. Any 2,881 bytes will do for the state.
-#[unsafe(no_mangle)]
-pub extern "C" fn bokuhira_format(
+pub fn bokuhira_format(
     array: &mut [u8],
     map: &mut [u16],
     hold: &[u8],
@@ -85,8 +84,7 @@ pub extern "C" fn bokuhira_format(
 }
 
 /// Makes map and state from what stands on the array. Any 2,881 bytes will do for the state: none is looked at.
-#[unsafe(no_mangle)]
-pub extern "C" fn bokuhira_recover(
+pub fn bokuhira_recover(
     array: &[u8],
     map: &mut [u16],
     hold: &[u8],
@@ -114,14 +112,7 @@ pub extern "C" fn bokuhira_recover(
 }
 
 /// Opens a change.
-#[unsafe(no_mangle)]
-pub extern "C" fn bokuhira_begin(
-    array: &[u8],
-    map: &[u16],
-    hold: &[u8],
-    state: &mut [u8],
-    id: u32,
-) -> u8
+pub fn bokuhira_begin(array: &[u8], map: &[u16], hold: &[u8], state: &mut [u8], id: u32) -> u8
     ensures { ◌≡◌ {A = Result} (record { answer = result; array = array.now; map = map.now; hold = hold.now; bytes = state.new }) (called (begin id) array.now map.now hold.now state.old) }
 {
     if !encoding::encodes(state) {
@@ -132,8 +123,7 @@ pub extern "C" fn bokuhira_begin(
 }
 
 /// Adds a page to an open change.
-#[unsafe(no_mangle)]
-pub extern "C" fn bokuhira_write(
+pub fn bokuhira_write(
     array: &mut [u8],
     map: &[u16],
     hold: &mut [u8],
@@ -152,8 +142,7 @@ pub extern "C" fn bokuhira_write(
 }
 
 /// Adds a page to an open change that drops its logical page.
-#[unsafe(no_mangle)]
-pub extern "C" fn bokuhira_drop(
+pub fn bokuhira_drop(
     array: &mut [u8],
     map: &[u16],
     hold: &mut [u8],
@@ -171,8 +160,7 @@ pub extern "C" fn bokuhira_drop(
 }
 
 /// Writes a page by itself.
-#[unsafe(no_mangle)]
-pub extern "C" fn bokuhira_lone(
+pub fn bokuhira_lone(
     array: &mut [u8],
     map: &mut [u16],
     hold: &[u8],
@@ -190,8 +178,7 @@ pub extern "C" fn bokuhira_lone(
 }
 
 /// Closes a change and enters its pages.
-#[unsafe(no_mangle)]
-pub extern "C" fn bokuhira_commit(
+pub fn bokuhira_commit(
     array: &mut [u8],
     map: &mut [u16],
     hold: &[u8],
@@ -208,14 +195,7 @@ pub extern "C" fn bokuhira_commit(
 }
 
 /// Forgets an open change.
-#[unsafe(no_mangle)]
-pub extern "C" fn bokuhira_abort(
-    array: &[u8],
-    map: &[u16],
-    hold: &[u8],
-    state: &mut [u8],
-    id: u32,
-) -> u8
+pub fn bokuhira_abort(array: &[u8], map: &[u16], hold: &[u8], state: &mut [u8], id: u32) -> u8
     ensures { ◌≡◌ {A = Result} (record { answer = result; array = array.now; map = map.now; hold = hold.now; bytes = state.new }) (called (abort id) array.now map.now hold.now state.old) }
 {
     if !encoding::encodes(state) {
@@ -226,8 +206,7 @@ pub extern "C" fn bokuhira_abort(
 }
 
 /// Whether a logical page can be read; if so, `at` becomes the place in the array at which its 512 bytes begin.
-#[unsafe(no_mangle)]
-pub extern "C" fn bokuhira_read(
+pub fn bokuhira_read(
     array: &[u8],
     map: &[u16],
     hold: &[u8],
@@ -251,13 +230,7 @@ pub extern "C" fn bokuhira_read(
 }
 
 /// One stride of a checkpoint.
-#[unsafe(no_mangle)]
-pub extern "C" fn bokuhira_checkpoint(
-    array: &mut [u8],
-    map: &[u16],
-    hold: &[u8],
-    state: &mut [u8],
-) -> u8
+pub fn bokuhira_checkpoint(array: &mut [u8], map: &[u16], hold: &[u8], state: &mut [u8]) -> u8
     ensures { ◌≡◌ {A = Result} (record { answer = result; array = array.new; map = map.now; hold = hold.now; bytes = state.new }) (called checkpoint array.old map.now hold.now state.old) }
 {
     if !encoding::encodes(state) {
@@ -268,13 +241,7 @@ pub extern "C" fn bokuhira_checkpoint(
 }
 
 /// One stride of a reclaim.
-#[unsafe(no_mangle)]
-pub extern "C" fn bokuhira_reclaim(
-    array: &mut [u8],
-    map: &mut [u16],
-    hold: &[u8],
-    state: &mut [u8],
-) -> u8
+pub fn bokuhira_reclaim(array: &mut [u8], map: &mut [u16], hold: &[u8], state: &mut [u8]) -> u8
     ensures { ◌≡◌ {A = Result} (record { answer = result; array = array.new; map = map.new; hold = hold.now; bytes = state.new }) (called reclaim array.old map.old hold.now state.old) }
 {
     if !encoding::encodes(state) {
@@ -285,8 +252,7 @@ pub extern "C" fn bokuhira_reclaim(
 }
 
 /// The class of a page: 0 erased, 1 whole, 2 torn, and then `difference` becomes Zeros minus the zero bits counted; 3 where the part is not 528 bytes long.
-#[unsafe(no_mangle)]
-pub extern "C" fn bokuhira_class(page: &[u8], difference: &mut i32) -> u8
+pub fn bokuhira_class(page: &[u8], difference: &mut i32) -> u8
     ensures { ◌≡◌ {A = Classed} (record { class = result; difference = difference.new }) (class_called page.now difference.old) }
 {
     if page.len() != Spare::PAGE {

@@ -1,17 +1,19 @@
 // Bench cases l and m of document 01 (docs/PAPERS.md), each on an array of the program's own. Answers are its numbers: 0 done, 255 more, else the
 // refusal.
+#![tactic(auto)]
+
 ghost use Rattle.std.specs.Prelude.{◌<◌, length};
 
 use device::{Device, Reply};
 use model::{Geometry, Spare, State};
+use std::io;
 
 /// The first byte of block 1 where a block has 8 pages.
 const BLOCK_1: usize = 4224;
 
 /// Writes a number after a space.
-fn tell(n: u8) {
-    io::write_all(1, b" ");
-    io::print_decimal(1, n as u64);
+fn tell(rt: &impl Print, n: u8) -> io::Result<()> {
+    print!(rt; " {n}")
 }
 
 /// The commands that are given again and again.
@@ -51,11 +53,11 @@ fn give(
 
 /// Writes what is seen of a command after each turn: of a format the answer, of a write nothing, of a checkpoint a line with the last checkpoint's
 /// number, the answer, the front block and a byte.
-fn show(command: Command, s: State, answer: u8, byte: u8) {
+fn show(rt: &impl Print, command: Command, s: State, answer: u8, byte: u8) -> io::Result<()> {
     match command {
-        Command::Format => tell(answer),
-        Command::Write => {}
-        Command::Checkpoint => line(s.checkpoint, answer, s.front, byte),
+        Command::Format => tell(rt, answer),
+        Command::Write => Ok(()),
+        Command::Checkpoint => line(rt, s.checkpoint, answer, s.front, byte),
     }
 }
 
@@ -70,6 +72,7 @@ fn goes_on(command: Command, answer: u8) -> bool {
 
 /// Gives a command until it does not go on, or so many times; the byte that is shown is the first of block 1.
 fn repeat(
+    rt: &impl Print,
     device: Device,
     array: &mut [u8],
     map: &mut [u16],
@@ -77,7 +80,7 @@ fn repeat(
     g: Geometry,
     command: Command,
     times: u8,
-) -> Repeated
+) -> io::Result<Repeated>
     requires { 4224 < length array.old }
 {
     let mut d = device;
@@ -90,89 +93,102 @@ fn repeat(
         d = t;
         answer = answers::number(a);
         let s = t.state;
-        show(command, s, answer, array[BLOCK_1]);
+        show(rt, command, s, answer, array[BLOCK_1])?;
         if !goes_on(command, answer) {
             break;
         }
         turns += 1;
     }
-    Repeated {
+    Ok(Repeated {
         device: d,
         turns,
         answer,
-    }
+    })
 }
 
 /// Formats an array, from the first stride to the one that does not answer more; a line with the answers.
-fn formatted(array: &mut [u8], map: &mut [u16], hold: &mut [u8], g: Geometry) -> Device
+fn formatted(
+    rt: &impl Print,
+    array: &mut [u8],
+    map: &mut [u16],
+    hold: &mut [u8],
+    g: Geometry,
+) -> io::Result<Device>
     requires { 4224 < length array.old }
 {
-    io::write_all(1, b"format:");
+    print!(rt; "format:")?;
     let s = State::fresh(g);
     let d = Device { state: s };
-    let r = repeat(d, array, map, hold, g, Command::Format, 200);
-    io::write_all(1, b"\n");
-    r.device
+    let r = repeat(rt, d, array, map, hold, g, Command::Format, 200)?;
+    println!(rt; "")?;
+    Ok(r.device)
 }
 
 /// Opens a change and writes pages to it until a write is not done; a line with the pages that went and the answer to the next.
 fn written(
+    rt: &impl Print,
     device: Device,
     array: &mut [u8],
     map: &mut [u16],
     hold: &mut [u8],
     g: Geometry,
-) -> Device
+) -> io::Result<Device>
     requires { 4224 < length array.old }
 {
-    io::write_all(1, b"pages written, answer to the next:");
+    print!(rt; "pages written, answer to the next:")?;
     let b = device.begin(array, map, hold, 1);
     let d = b.device;
-    let r = repeat(d, array, map, hold, g, Command::Write, 200);
-    tell(r.turns);
-    tell(r.answer);
-    io::write_all(1, b"\n");
-    r.device
+    let r = repeat(rt, d, array, map, hold, g, Command::Write, 200)?;
+    tell(rt, r.turns)?;
+    tell(rt, r.answer)?;
+    println!(rt; "")?;
+    Ok(r.device)
 }
 
 /// Recovers, and ends a line with the answer and the page that logical page 0 then stands on.
-fn recovered(d: Device, array: &[u8], map: &mut [u16], hold: &[u8], g: Geometry)
+fn recovered(
+    rt: &impl Print,
+    d: Device,
+    array: &[u8],
+    map: &mut [u16],
+    hold: &[u8],
+    g: Geometry,
+) -> io::Result<()>
     requires { 0 < length map.old }
 {
     let r = d.recover(array, map, hold, g);
     let a = r.answer;
-    tell(answers::number(a));
-    io::write_all(1, b" ");
-    io::print_decimal(1, map[0] as u64);
-    io::write_all(1, b"\n");
+    tell(rt, answers::number(a))?;
+    println!(rt; " {}", map[0])
 }
 
 /// Commits that change and recovers; a line with both answers and the page that logical page 0 then stands on.
-fn kept(device: Device, array: &mut [u8], map: &mut [u16], hold: &[u8], g: Geometry)
+fn kept(
+    rt: &impl Print,
+    device: Device,
+    array: &mut [u8],
+    map: &mut [u16],
+    hold: &[u8],
+    g: Geometry,
+) -> io::Result<()>
     requires { 0 < length map.old }
 {
-    io::write_all(1, b"commit, recover, page of logical page 0:");
+    print!(rt; "commit, recover, page of logical page 0:")?;
     let r = device.commit(array, map, hold, 1);
     let d = r.device;
     let a = r.answer;
-    tell(answers::number(a));
-    recovered(d, array, map, hold, g);
+    tell(rt, answers::number(a))?;
+    recovered(rt, d, array, map, hold, g)
 }
 
 /// A line of four numbers.
-fn line(number: u32, answer: u8, front: u8, byte: u8) {
-    io::print_decimal(1, number as u64);
-    tell(answer);
-    tell(front);
-    tell(byte);
-    io::write_all(1, b"\n");
+fn line(rt: &impl Print, number: u32, answer: u8, front: u8, byte: u8) -> io::Result<()> {
+    println!(rt; "{number} {answer} {front} {byte}")
 }
 
 /// Case l: the 41st page goes, the 42nd answers 10; the change is committed and recovered.
-fn case_l(planes: u16) {
-    io::write_all(1, b"case l, planes: ");
-    io::print_decimal(1, planes as u64);
-    io::write_all(1, b"\n");
+fn case_l(rt: &impl Print, planes: u16) -> io::Result<()> {
+    println!(rt; "case l, planes: {planes}")?;
     let g = Geometry {
         blocks: 8,
         pages: 32,
@@ -182,9 +198,9 @@ fn case_l(planes: u16) {
     let mut array = [0u8; 135168];
     let mut map = [0u16; 16];
     let mut hold = [0u8; State::HOLD];
-    let d = formatted(&mut array, &mut map, &mut hold, g);
-    let e = written(d, &mut array, &mut map, &mut hold, g);
-    kept(e, &mut array, &mut map, &hold, g);
+    let d = formatted(rt, &mut array, &mut map, &mut hold, g)?;
+    let e = written(rt, d, &mut array, &mut map, &mut hold, g)?;
+    kept(rt, e, &mut array, &mut map, &hold, g)
 }
 
 /// Makes the first byte of block 1 zero, for an erase to be seen.
@@ -196,8 +212,8 @@ fn mark(array: &mut [u8])
 
 /// Case m: with L = 16 and P = 8 the fifth checkpoint in all erases block 1 first. Nine strides: the three checkpoints for which block 0 has
 /// room beside the format's, and the next.
-fn case_m() {
-    io::write_all(1, b"case m\n");
+fn case_m(rt: &impl Print) -> io::Result<()> {
+    println!(rt; "case m")?;
     let g = Geometry {
         blocks: 8,
         pages: 8,
@@ -207,13 +223,11 @@ fn case_m() {
     let mut array = [0u8; 33792];
     let mut map = [0u16; 16];
     let mut hold = [0u8; State::HOLD];
-    let d = formatted(&mut array, &mut map, &mut hold, g);
+    let d = formatted(rt, &mut array, &mut map, &mut hold, g)?;
     mark(&mut array);
-    io::write_all(
-        1,
-        b"after each stride: last checkpoint, answer, front block, first byte of block 1\n",
-    );
-    let r = repeat(
+    println!(rt; "after each stride: last checkpoint, answer, front block, first byte of block 1")?;
+    repeat(
+        rt,
         d,
         &mut array,
         &mut map,
@@ -221,11 +235,12 @@ fn case_m() {
         g,
         Command::Checkpoint,
         9,
-    );
+    )?;
+    Ok(())
 }
 
-fn main() {
-    case_l(1);
-    case_l(2);
-    case_m();
+fn main(rt: HostRuntime) -> io::Result<()> {
+    case_l(&rt, 1)?;
+    case_l(&rt, 2)?;
+    case_m(&rt)
 }

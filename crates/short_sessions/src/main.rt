@@ -1,11 +1,15 @@
 // Prints every short session of point 13 of document 02 (docs/PAPERS.md), one line each: what crate `sessions` puts.
-use sessions::Listing;
+#![tactic(auto)]
 
-fn main() {
+use sessions::Listing;
+use std::io::Write;
+
+fn main(rt: HostRuntime) -> std::io::Result<()> {
     let mut out = [0u8; 32768];
     let Listing::Listed(n) = sessions::list(&mut out) else {
-        io::write_all(2, b"the text is longer than its buffer\n");
-        return;
+        return rt
+            .stderr()
+            .write_all(b"the text is longer than its buffer\n");
     };
-    io::write_all(1, &out[..n]);
+    rt.stdout().write_all(&out[..n])
 }

@@ -1,10 +1,14 @@
 // Prints the table for the boot logic: the zero bits of each byte value, one decimal a line from value 0 up.
 // It counts them; the table that the library carries has the numbers printed here (crate `table`), and both are shown equal to the same list.
+#![tactic(auto)]
+
 ghost use Rattle.std.specs.Prelude.{◌≡◌, ◌-◌, take};
 ghost use Rattle.std.specs.Int.Count.{ones};
 ghost use Rattle.io.specs.Counts.{IsPrefixLen};
 ghost use Rattle.table.specs.Counts.{counts};
 ghost use Rattle.zerotable.specs.Text.{lines_of};
+
+use std::io::Write;
 
 /// The zero bits of a byte value, counted.
 fn zero_count(x: u8) -> u32
@@ -26,8 +30,8 @@ fn text(out: &mut [u8; 8192]) -> usize
     end
 }
 
-fn main() {
+fn main(rt: HostRuntime) -> std::io::Result<()> {
     let mut out = [0u8; 8192];
     let n = text(&mut out);
-    io::write_all(1, &out[..n]);
+    rt.stdout().write_all(&out[..n])
 }
