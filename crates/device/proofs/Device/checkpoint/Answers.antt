@@ -1,0 +1,6 @@
+-- `Device::checkpoint` meets its contract: `housekeeping::checkpoint` does. Assumes nothing.
+use borrow.Author.Rules.{rules}
+use Rattle.device.proofs.Device.checkpoint.Goals as goal
+
+pub returns : goal.returns
+returns c = rw c.strode.ensures c.checkpoint.ensures

@@ -1,0 +1,6 @@
+-- `Device::drop` meets its contract: `writing::drop` does. Assumes nothing.
+use borrow.Author.Rules.{rules}
+use Rattle.device.proofs.Device.drop.Goals as goal
+
+pub returns : goal.returns
+returns c = rw c.strode.ensures c.drop.ensures

@@ -1,0 +1,6 @@
+-- `Device::format` meets its contract: `starting::format` does. Assumes nothing.
+use borrow.Author.Rules.{rules}
+use Rattle.device.proofs.Device.format.Goals as goal
+
+pub returns : goal.returns
+returns c = rw c.strode.ensures c.format.ensures

@@ -1,0 +1,6 @@
+-- `Device::read` meets its contract: `reading::read` does. Assumes nothing.
+use borrow.Author.Rules.{rules}
+use Rattle.device.proofs.Device.read.Goals as goal
+
+pub returns : goal.returns
+returns c = c.read.ensures

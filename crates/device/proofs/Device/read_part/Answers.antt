@@ -1,0 +1,6 @@
+-- `Device::read_part` meets its contract: `reading::read_part` does. Assumes nothing.
+use borrow.Author.Rules.{rules}
+use Rattle.device.proofs.Device.read_part.Goals as goal
+
+pub returns : goal.returns
+returns c = c.read_part.ensures

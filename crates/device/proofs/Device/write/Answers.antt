@@ -1,0 +1,6 @@
+-- `Device::write` meets its contract: `writing::write` does. Assumes nothing.
+use borrow.Author.Rules.{rules}
+use Rattle.device.proofs.Device.write.Goals as goal
+
+pub returns : goal.returns
+returns c = rw c.strode.ensures c.write.ensures
