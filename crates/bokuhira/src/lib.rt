@@ -2,6 +2,8 @@
 // lent as slices. Nothing is required of a caller. Format and recover take any 2,881 bytes for the state, since after power-up anything
 // stands there; to the other commands bytes that encode no state are a bad frame, answered 1. An answer is a number, 0 done, 255 more, else
 // the refusal's, and a refusal leaves every slice as it was. Beside the commands stands the class of a page, for whoever looks into an array.
+#![tactic(auto)]
+
 ghost use Rattle.std.specs.Prelude.{◌≡◌, true, cond, length};
 ghost use Rattle.model.specs.Answers.{number, refused};
 ghost use Rattle.model.specs.Commands.{format, recover, begin, write, drop_page, lone, commit, abort, checkpoint, reclaim};

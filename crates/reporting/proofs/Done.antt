@@ -40,7 +40,7 @@ module _ (g : Geometry) (w : World) where
       let first = done_first (recover_checks g w) w (recover_plan g (page_taken g w) w) z in
       none_applies (recover_checks g w) refl first (λ lent none load good. rw first (unfold recover_plan in record {
         page = page_taken g w;
-        stands = standing g w (lent_ok g w) refl lent (map_pages g) refl (checkpoint_taken g w) refl (page_taken g w) (found_at (checkpoint_taken g w) none);
+        stands = standing g w (lent_ok g w) refl (not-false _ lent) (map_pages g) refl (checkpoint_taken g w) refl (page_taken g w) (found_at (checkpoint_taken g w) none);
         loads = not-false _ load;
         made = refl;
       }))

@@ -1,5 +1,7 @@
 // What the program `report` says of an array: its input parsed, the array recovered, the text put together.
 // Everything is done on slices, so that the program only reads and writes. Nothing is required of a caller of `report`.
+#![tactic(auto)]
+
 ghost use Rattle.std.specs.Prelude.{◌≡◌, ◌≤◌, length, take};
 ghost use Rattle.io.specs.Counts.{IsPrefixLen};
 ghost use Rattle.model.specs.Zones.{torn_of};

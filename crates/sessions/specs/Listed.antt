@@ -142,11 +142,13 @@ before_append c (x ∷ xs) ys h k = (h.0, before_append c xs ys h.1 k)
 module _ (p : List ℕ → Bool) where
   among_those : (cs : List ℕ) (xs : List (List ℕ)) → Among cs xs → p cs ≡ true → Among cs (those p xs)
   unfolding those
+  among_those cs [] a h = elim a [ ]
   among_those cs (x ∷ xs) (inl e) h = among_left cs (keep (p x) (x ∷ [])) (those p xs) (subst (λ (x : List ℕ). Among cs (keep (p x) (x ∷ []))) e (rw h (inl refl)))
   among_those cs (x ∷ xs) (inr a) h = among_right cs (keep (p x) (x ∷ [])) (those p xs) (among_those cs xs a h)
 
   those_among : (cs : List ℕ) (xs : List (List ℕ)) → Among cs (those p xs) → Among cs xs × (p cs ≡ true)
   unfolding those
+  those_among cs [] a = elim a [ ]
   those_among cs (x ∷ xs) a = go (those_among cs xs) (p x) refl (among_either cs (keep (p x) (x ∷ [])) (those p xs) a)
     where
       go : (Among cs (those p xs) → Among cs xs × (p cs ≡ true)) → (b : Bool) → p x ≡ b → Among cs (keep b (x ∷ [])) ⊎ Among cs (those p xs)
@@ -192,6 +194,7 @@ pub record Numbered (n k j : ℕ) (cs : List ℕ) : Type 0 where
 
 from_only : (n k j : ℕ) (cs : List ℕ) → Among cs (sessions_from n k j) → Numbered n k j cs
 unfolding sessions_from
+from_only n k zero cs a = elim a [ ]
 from_only n k (suc j) cs (inl e) = record { number = k; least = omega arith; most = omega arith; is = e }
 from_only n k (suc j) cs (inr a) =
     let r = from_only n (suc k) j cs a in record { number = r.number; least = omega (arith, r.least); most = omega (arith, r.most); is = r.is }
@@ -222,6 +225,7 @@ pub record Sized (n j : ℕ) (cs : List ℕ) : Type 0 where
 
 up_only : (n j : ℕ) (cs : List ℕ) → Among cs (sessions_up n j) → Sized n j cs
 unfolding sessions_up
+up_only n zero cs a = elim a [ ]
 up_only n (suc j) cs a = go (up_only (suc n) j cs) (among_either cs (sessions_from n 0 (power n)) (sessions_up (suc n) j) a)
   where
     go : (Among cs (sessions_up (suc n) j) → Sized (suc n) j cs) → Among cs (sessions_from n 0 (power n)) ⊎ Among cs (sessions_up (suc n) j) → Sized n (suc j) cs

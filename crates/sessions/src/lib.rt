@@ -1,5 +1,7 @@
 // Every short session, by point 13 of document 02 (docs/PAPERS.md): each is run on a device of its own, and put as a line with the maps recovered after its
 // cuts. They are run by number, shorter ones first, so that the order of the loops is the order of the text.
+#![tactic(auto)]
+
 ghost use Rattle.std.specs.Prelude.{◌≡◌, not, ◌+◌, ◌*◌, ◌≤◌, length, take};
 ghost use Rattle.model.specs.Lists.{keep};
 ghost use Rattle.model.specs.Answers.{number, refused};

@@ -1,0 +1,7 @@
+-- `bokuhira::device` meets its contract. Assumes nothing.
+use borrow.Author.Rules.{rules}
+use Rattle.bokuhira.proofs.Calls.{coded_long}
+use Rattle.bokuhira.proofs.device.Goals as goal
+
+pub load-s-requires : goal.load-s-requires
+load-s-requires c = coded_long _ c.requires
