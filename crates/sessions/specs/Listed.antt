@@ -154,6 +154,8 @@ module _ (p : List ℕ → Bool) where
       go : (Among cs (those p xs) → Among cs xs × (p cs ≡ true)) → (b : Bool) → p x ≡ b → Among cs (keep b (x ∷ [])) ⊎ Among cs (those p xs)
           → ((cs ≡ x) ⊎ Among cs xs) × (p cs ≡ true)
       go ih true e (inl (inl h)) = (inl h, ap p h ∙ e)
+      go ih false e (inl h) = elim h [ ]
+      go ih true e (inl (inr h)) = elim h [ ]
       go ih b e (inr h) = (inr (ih h).0, (ih h).1)
 
   -- and those that are left stay in order

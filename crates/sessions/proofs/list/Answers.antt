@@ -23,7 +23,7 @@ pub returns-in_default : goal.returns-in_default
 returns-in_default c =
     let l = c.loop-n in
     let p = c.put_lines in
-    text_longer l.n l.count l.out p.new.0 l.end p.result c.in_default.is p.ensures (omega (arith, c.loop-n-test.true))
+    text_longer l.n l.count l.out p.new.out l.end p.result c.in_default.is p.ensures (omega (arith, c.loop-n-test.true))
     l.invariant.1.1.0 l.invariant.1.0 l.invariant.1.1.1
 
 pub overflow_mul-count : goal.overflow_mul-count
@@ -36,7 +36,7 @@ loop-n-preserved c =
     let l = c.loop-n in
     let p = c.put_lines in
     let t = c.loop-n-test.true in
-    let a = sizes_again l.n l.count l.out p.new.0 l.end p.result c.in-Listed.is p.ensures (omega (arith, t)) l.invariant.1.1.0 l.invariant.1.1.1 in
+    let a = sizes_again l.n l.count l.out p.new.out l.end p.result c.in-Listed.is p.ensures (omega (arith, t)) l.invariant.1.1.0 l.invariant.1.1.1 in
     (omega (arith, t), (a.0, (power_next l.n l.count l.invariant.1.1.0, a.1)))
 
 pub returns : goal.returns

@@ -22,7 +22,7 @@ pub returns-then-not-done : goal.returns-then-not-done
 unfolding fresh lent_for
 returns-then-not-done c =
     let t = c.turns-done in
-    no_line _ _ _ _ c.session-list.ensures c.formatted-d.ensures t.ensures.0 c.if-not-done.true (omega (arith, c.requires.1)) c.put_list-a.ensures t.ensures.1
+    no_line _ _ _ _ c.session-list.ensures c.formatted-d.ensures t.ensures.0 (not-true _ c.if-not-done.true) (omega (arith, c.requires.1)) c.put_list-a.ensures t.ensures.1
 
 pub put-requires : goal.put-requires
 put-requires c =
@@ -38,5 +38,5 @@ pub returns : goal.returns
 unfolding fresh lent_for
 returns c =
     let long = ap length c.session-list.ensures ∙ session_long c.args.n c.args.k in
-    line_put _ _ _ _ c.session-list.ensures c.formatted-d.ensures c.turns-done.ensures.0 c.if-not-done.false c.put_list-a.ensures
+    line_put _ _ _ _ c.session-list.ensures c.formatted-d.ensures c.turns-done.ensures.0 (not-false _ c.if-not-done.false) c.put_list-a.ensures
     c.turns-done.ensures.1 c.put.ensures (omega (arith, c.requires.0, long))
