@@ -38,7 +38,7 @@ shape_of-hold-then-not-t c =
     c.hold-1.given ∙ l.invariant.1.1.1
 
 pub returns-then-not-t : goal.returns-then-not-t
-returns-then-not-t c = going_refused _ _ _ _ c.loop-i.i _ _ c.loop-i.end c.loop-i.invariant.0 _ _ c.turn-t.result c.loop-i-test.true c.turn-t.ensures c.if-not-t.true (omega (arith, c.requires.1))
+returns-then-not-t c = going_refused _ _ _ _ c.loop-i.i _ _ c.loop-i.end c.loop-i.invariant.0 _ _ c.turn-t.result c.loop-i-test.true c.turn-t.ensures (not-true _ c.if-not-t.true) (omega (arith, c.requires.1))
 
 pub overflow_add-i : goal.overflow_add-i
 overflow_add-i c = search (rules, c.well_formed, c.loop-i-test.true)
@@ -48,7 +48,7 @@ loop-i-smaller c = let t = c.loop-i-test.true in omega (arith, t)
 
 pub loop-i-preserved : goal.loop-i-preserved
 loop-i-preserved c = (
-  going_again _ _ _ _ c.loop-i.i _ _ c.loop-i.end c.loop-i.invariant.0 _ _ c.turn-t.result c.loop-i-test.true c.turn-t.ensures c.if-not-t.false,
+  going_again _ _ _ _ c.loop-i.i _ _ c.loop-i.end c.loop-i.invariant.0 _ _ c.turn-t.result c.loop-i-test.true c.turn-t.ensures (not-false _ c.if-not-t.false),
   (c.array-1.given ∙ c.loop-i.invariant.1.0, (c.map-1.given ∙ c.loop-i.invariant.1.1.0, c.hold-1.given ∙ c.loop-i.invariant.1.1.1)),
 )
 
