@@ -6,7 +6,7 @@ use borrow.Author.Rules.{rules}
 use Rattle.cases.proofs.repeat.Given as goal
 
 abbrev pub invariant-loop-turns : goal.invariant-loop-turns
-invariant-loop-turns l = (length l.array ≡ length l.initial.array) × ((length l.map ≡ length l.initial.map) × ((length l.hold ≡ length l.initial.hold) × (l.turns ≤ l.times)))
+invariant-loop-turns g l = (length l.array ≡ length l.initial.array) × ((length l.map ≡ length l.initial.map) × ((length l.hold ≡ length l.initial.hold) × (l.turns ≤ l.times)))
 
 abbrev pub decreases-loop-turns : goal.decreases-loop-turns
-decreases-loop-turns l = l.times - l.turns
+decreases-loop-turns g l = l.times - l.turns
