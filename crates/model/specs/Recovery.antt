@@ -1,5 +1,5 @@
 -- Refusal 4, the commit rule, and what is applied by rising version.
-use Rattle.std.specs.Prelude.{ℕ, zero, suc, ◌+◌, ◌-◌, max, Bool, true, false, not, cond, ◌&&◌, ◌||◌, List, [], ◌∷◌, ◌++◌, length, ltb, leb, eqb}
+use Rattle.std.specs.Prelude.{ℕ, zero, suc, ◌+◌, ◌-◌, max, Bool, not, cond, ◌&&◌, ◌||◌, List, [], ◌∷◌, ◌++◌, length, ltb, leb, eqb}
 use Rattle.model.specs.Lists.{all, all_heads, keep, those}
 use Rattle.model.specs.Geometry.{enter_page, leads}
 use Rattle.model.specs.Zones.{Entry}

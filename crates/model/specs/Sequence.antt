@@ -4,9 +4,9 @@ use Rattle.model.specs.Lists.{keep, those}
 use Rattle.model.specs.Bytes.{bytes}
 use Rattle.model.specs.Page.{page_at, put_page}
 use Rattle.model.specs.Answers.{refused}
-use Rattle.model.specs.World.{World, Op, none, program, erase, Plan, due_bits, turned_bits, cut_op, programs, is_none}
+use Rattle.model.specs.World.{World, Op, none, program, erase, due_bits, turned_bits, cut_op, programs, is_none}
 use Rattle.model.specs.Strides.{strides_done}
-use Rattle.model.specs.Commands.{Call, format, recover, begin, write, drop_page, lone, commit, abort, read, checkpoint, reclaim, plan, exec, Outcome}
+use Rattle.model.specs.Commands.{Call, format, recover, begin, write, drop_page, lone, commit, abort, read, checkpoint, reclaim, plan, exec}
 use Rattle.model.specs.Book.{Event, called, cut_in, cut_between}
 use Rattle.model.specs.declared.Geometry.{Geometry}
 

@@ -1,5 +1,5 @@
 -- Zones: clean pages, scan order, and what a checkpoint moves.
-use Rattle.std.specs.Prelude.{ℕ, zero, suc, ◌+◌, ◌-◌, ◌*◌, ◌%◌, Bool, true, false, not, cond, ◌&&◌, ◌||◌, List, [], ◌∷◌, ◌++◌, length, take, get_or, replicate, leb, ltb, eqb}
+use Rattle.std.specs.Prelude.{ℕ, zero, suc, ◌+◌, ◌-◌, ◌*◌, ◌%◌, Bool, false, not, cond, ◌&&◌, ◌||◌, List, [], ◌∷◌, ◌++◌, length, take, get_or, replicate, leb, ltb, eqb}
 use Rattle.model.specs.Lists.{any, all_heads, find, keep, those, count, elem, rising, up_from, pad_to, without, insert}
 use Rattle.model.specs.Page.{spare_of, page_at, whole_at, torn_at, used_from}
 use Rattle.model.specs.Geometry.{data_block}
