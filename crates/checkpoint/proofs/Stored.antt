@@ -1,7 +1,7 @@
 -- The data of a zone page as they are stored: eight bytes over zeros, and the lists behind them. Assumes nothing.
 use mathlib.Core.Path.{◌≡◌, ap, sym, ◌∙◌}
 use mathlib.Core.List.{List, [], ◌∷◌, ◌++◌, append_assoc, append-nil}
-use Prim.Native.Nat.{ℕ, ◌+◌, ◌-◌, ◌≤◌}
+use Prim.Native.Nat.{ℕ, ◌-◌, ◌≤◌}
 use native.Mathlib.Omega.{arith}
 use lib.Seq.{sets, length-take-le}
 use lib.ListN.{length, take, drop, set, replicate, length-append, length-take}

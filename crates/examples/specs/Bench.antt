@@ -1,6 +1,6 @@
 -- The starred bench cases of document 01 (docs/PAPERS.md) as one table: a row is a case, its input and what document 01 says of it; one theorem
 -- says that every row holds.
-use Rattle.std.specs.Prelude.{ℕ, ◌+◌, ◌-◌, ◌*◌, ◌≡◌, refl, cond, false, List, [], ◌∷◌, ◌++◌, drop, set, replicate}
+use Rattle.std.specs.Prelude.{ℕ, ◌-◌, ◌*◌, ◌≡◌, refl, cond, false, List, [], ◌∷◌, ◌++◌, drop, set, replicate}
 use Rattle.std.proofs.Common.{ap, ◌∙◌}
 use Rattle.model.specs.Lists.{count, pad_to}
 use Rattle.model.specs.Bytes.{le16}

@@ -1,7 +1,7 @@
 -- Rows of the rules: a second table beside the starred one. A row is a sentence of document 01 or 02 (docs/PAPERS.md) that neither demand 3 nor a bench
 -- case tells from a wrong one: its name, what the definitions give for small inputs, and what the paper says. One theorem says that every row
 -- holds. The orders of refusals stand in `Orders`, as laws over all worlds.
-use Rattle.std.specs.Prelude.{ℕ, zero, suc, ◌+◌, ◌-◌, ◌*◌, ◌≡◌, refl, Bool, true, false, cond, List, [], ◌∷◌, ◌++◌, length, take, drop, get_or, set, replicate, ℤ, pos, negsuc, eqb}
+use Rattle.std.specs.Prelude.{ℕ, zero, suc, ◌+◌, ◌*◌, ◌≡◌, refl, Bool, true, false, cond, List, [], ◌∷◌, ◌++◌, length, take, drop, get_or, set, replicate, ℤ, pos, negsuc, eqb}
 use Rattle.std.proofs.Common.{ap}
 use Rattle.model.specs.Lists.{all, up_from, pad_to}
 use Rattle.model.specs.Bytes.{all_ff}

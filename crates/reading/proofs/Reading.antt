@@ -6,7 +6,7 @@ use mathlib.Core.List.{List, [], ◌∷◌}
 use lib.ListN.{length, get_or, take}
 use lib.Dec.{eqb}
 use native.Mathlib.Omega.{arith}
-use borrow.Author.Tests.{le-leb, lt-leb, leb-false, eq-eqb, ne_eqb, eqb-false, not-true, not-false}
+use borrow.Author.Tests.{le-leb, lt-leb, leb-false, eq-eqb, ne_eqb, eqb-false, not-false}
 use Rattle.model.specs.Lists.{all, elem}
 use Rattle.model.specs.Page.{page_at, data_at}
 use Rattle.model.specs.Geometry.{data_page, unmapped, entry_ok, map_ok}

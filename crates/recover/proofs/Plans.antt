@@ -13,7 +13,7 @@ use Rattle.model.specs.Lists.{all}
 use Rattle.model.specs.Page.{data_at}
 use Rattle.model.specs.Geometry.{unmapped, map_pages, map_ok}
 use Rattle.model.specs.Zones.{Entry, available_of, unavailable_of, scan_in, scan_of}
-use Rattle.model.specs.Checkpoint.{at, number_at, load_map, zones_in, load_ok}
+use Rattle.model.specs.Checkpoint.{number_at, load_map, zones_in, load_ok}
 use Rattle.model.specs.Recovery.{pages_good, top, redone}
 use Rattle.model.specs.World.{apply_op}
 use Rattle.model.specs.Order.{first_number}

@@ -1,6 +1,6 @@
 -- A sequence of an 8 × 8 × 16 device of two planes: pages are taken from the planes in turn, two of them run at once, and the power fails while the mark
 -- of their change is programmed. Where the page that still runs is torn, the whole mark commits nothing; where it is whole, all of the change is there.
-use Rattle.std.specs.Prelude.{ℕ, ◌+◌, ◌≡◌, Bool, true, false, cond, ◌&&◌, take, set, get_or, replicate, length, eqb}
+use Rattle.std.specs.Prelude.{ℕ, ◌≡◌, Bool, true, false, cond, ◌&&◌, take, set, get_or, replicate, length, eqb}
 use Rattle.std.proofs.Math.Path.{refl, ap}
 use Rattle.std.proofs.Common.{◌∙◌}
 use Rattle.std.proofs.Math.Bool.{and-false}

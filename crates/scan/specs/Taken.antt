@@ -1,5 +1,5 @@
 -- The pages of a scan by their numbers, and what is taken from each: its entry, by the 528 bytes of the page alone.
-use Rattle.std.specs.Prelude.{ℕ, ◌+◌, ◌*◌, ◌≤◌, ◌≡◌, refl, List, [], ◌∷◌, ◌++◌, length}
+use Rattle.std.specs.Prelude.{ℕ, ◌*◌, ◌≤◌, ◌≡◌, refl, List, [], ◌∷◌, ◌++◌, length}
 use Rattle.std.proofs.Common.{ap}
 use Rattle.model.specs.Lists.{keep, up_from}
 use Rattle.model.specs.Page.{spare_of, is_whole, page_at, whole_at}

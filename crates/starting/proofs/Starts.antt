@@ -1,10 +1,9 @@
 -- Format and recover: what their checks give, and what a stride or the recovery may count on behind them. Assumes nothing.
 use Prim.Native.Nat.{ℕ, ◌*◌, ◌≤◌}
 use mathlib.Core.Path.{◌≡◌, sym, ◌∙◌}
-use mathlib.Core.Bool.{Bool, true, false, not, ◌&&◌}
+use mathlib.Core.Bool.{Bool, true, false, ◌&&◌}
 use native.Mathlib.Omega.{arith}
 use lib.ListN.{length}
-use borrow.Author.Tests.{not-true, not-false}
 use Rattle.model.specs.Geometry.{geometry_ok, lengths_ok, map_pages}
 use Rattle.model.specs.World.{World, refuse}
 use Rattle.model.specs.Order.{first_number}

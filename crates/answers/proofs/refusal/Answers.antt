@@ -1,5 +1,4 @@
 -- `answers::refusal` meets its contract: the table has each refusal at its number, which is computed once. Assumes that the number is of the table.
-use borrow.Author.Rules.{rules}
 use native.Mathlib.Omega.{arith}
 use Rattle.arrays.specs.Order.{table_least, table_most}
 use Rattle.answers.proofs.Table.{of_table}

@@ -1,7 +1,6 @@
 -- `answers::refusal_number` meets its contract: by the cases of the refusal. Assumes nothing.
 use mathlib.Core.Path.{sym, ap}
 use Rattle.model.specs.Answers.{refusal_number}
-use borrow.Author.Rules.{rules}
 use Rattle.answers.proofs.refusal_number.Goals as goal
 
 pub returns-in-BadFrame : goal.returns-in-BadFrame

@@ -1,5 +1,4 @@
 -- `change::data_spare` meets its contract: the kind is `kind_of`'s. Assumes nothing.
-use borrow.Author.Rules.{rules}
 use Rattle.change.proofs.data_spare.Goals as goal
 
 pub returns : goal.returns

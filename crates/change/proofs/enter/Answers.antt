@@ -1,12 +1,8 @@
 -- `change::enter` meets its contract. The loop's invariant: the first `i` pages are entered. Assumes nothing.
 use mathlib.Core.Path.{◌≡◌, refl, ◌∙◌, ap}
-use mathlib.Core.Bool.{true}
-use Prim.Native.Nat.{ℕ, ◌-◌, ◌≤◌}
 use native.Mathlib.Omega.{arith}
-use lib.ListN.{length, take, length-set}
-use lib.Dec.{ltb}
+use lib.ListN.{length-set}
 use borrow.Author.Rules.{rules}
-use Rattle.model.specs.Lists.{all}
 use Rattle.model.specs.Transactions.{entered}
 use Rattle.change.proofs.Entering.{entered_more, page_in}
 use Rattle.change.proofs.enter.Goals as goal

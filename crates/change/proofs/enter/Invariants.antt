@@ -1,14 +1,11 @@
 -- `change::enter` meets its contract. The loop's invariant: the first `i` pages are entered. Assumes nothing.
-use mathlib.Core.Path.{◌≡◌, refl, ◌∙◌, ap}
+use mathlib.Core.Path.{◌≡◌}
 use mathlib.Core.Bool.{true}
 use Prim.Native.Nat.{ℕ, ◌-◌, ◌≤◌}
-use native.Mathlib.Omega.{arith}
-use lib.ListN.{length, take, length-set}
+use lib.ListN.{length, take}
 use lib.Dec.{ltb}
-use borrow.Author.Rules.{rules}
 use Rattle.model.specs.Lists.{all}
 use Rattle.model.specs.Transactions.{entered}
-use Rattle.change.proofs.Entering.{entered_more, page_in}
 use Rattle.change.proofs.enter.Given as goal
 
 abbrev pub invariant-loop-i : goal.invariant-loop-i

@@ -8,7 +8,6 @@ use lib.ListN.{length, take, drop, length-take, length-drop, drop_of_length-le}
 use lib.Seq.{take_all, drop-drop}
 use Rattle.model.specs.Lists.{splice}
 use Rattle.model.specs.Transactions.{hold_with}
-use borrow.Author.Rules.{rules}
 use Rattle.change.proofs.hold_page.Goals as goal
 
 pub returns : goal.returns

@@ -1,6 +1,5 @@
 -- `change::is_other` meets its contract: by the cases of the last plane. Assumes nothing.
 use Rattle.model.specs.Zones.{is_odd, other_plane}
-use borrow.Author.Rules.{rules}
 use Rattle.change.proofs.is_other.Goals as goal
 
 pub returns-in-Neither : goal.returns-in-Neither

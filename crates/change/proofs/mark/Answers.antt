@@ -1,7 +1,6 @@
 -- `change::mark` meets its contract: the held page lies on the next page, which is erased, and every page of the place is entered in the map. Assumes nothing.
 use native.Mathlib.Omega.{arith}
 use lib.ListN.{get_or}
-use borrow.Author.Rules.{rules}
 use Rattle.model.specs.Frame.{no_place}
 use Rattle.change.proofs.Framed.{frame_in, place_at_law, count_most, pages_in}
 use Rattle.change.proofs.Next.{next_fits, next_small, next_erased, some_pages}

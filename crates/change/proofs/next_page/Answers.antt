@@ -3,9 +3,7 @@ use mathlib.Core.Path.{◌≡◌, sym, ◌∙◌}
 use native.Mathlib.Omega.{arith}
 use lib.ListN.{length}
 use lib.Seq.{length-take-le}
-use Rattle.model.specs.Lists.{those}
 use Rattle.model.specs.Zones.{available_of, other_plane}
-use Rattle.flash.specs.Ranges.{Within}
 use Rattle.zones.proofs.Listed.{ready_listed, available_within}
 use Rattle.zones.proofs.Sliding.{picked_within}
 use Rattle.change.proofs.Next.{taken_all, taken_other}

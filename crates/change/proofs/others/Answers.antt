@@ -1,9 +1,6 @@
 -- `change::others` meets its contract. The loop's invariant: of the first `i` blocks, those of the other plane are listed. Assumes nothing.
 use mathlib.Core.Path.{◌≡◌, refl, sym, ◌∙◌}
-use Prim.Native.Nat.{◌-◌, ◌≤◌}
 use native.Mathlib.Omega.{arith}
-use lib.ListN.{length, take}
-use borrow.Author.Tests.{not-true, not-false}
 use borrow.Author.Rules.{rules}
 use Rattle.model.specs.Lists.{those}
 use Rattle.model.specs.Zones.{other_plane}

@@ -1,13 +1,9 @@
 -- `change::others` meets its contract. The loop's invariant: of the first `i` blocks, those of the other plane are listed. Assumes nothing.
-use mathlib.Core.Path.{◌≡◌, refl, sym, ◌∙◌}
+use mathlib.Core.Path.{◌≡◌}
 use Prim.Native.Nat.{◌-◌, ◌≤◌}
-use native.Mathlib.Omega.{arith}
 use lib.ListN.{length, take}
-use borrow.Author.Tests.{not-true, not-false}
-use borrow.Author.Rules.{rules}
 use Rattle.model.specs.Lists.{those}
 use Rattle.model.specs.Zones.{other_plane}
-use Rattle.change.proofs.Next.{picked_pass, picked_more}
 use Rattle.change.proofs.others.Given as goal
 
 abbrev pub invariant-loop-i : goal.invariant-loop-i

@@ -2,7 +2,6 @@
 use native.Mathlib.Nat.{add-sub_cancel_left}
 use Rattle.model.specs.Lists.{part}
 use Rattle.model.specs.Transactions.{held_at}
-use borrow.Author.Rules.{rules}
 use Rattle.change.proofs.program_held.Goals as goal
 
 pub returns : goal.returns

@@ -1,6 +1,5 @@
 -- `change::put_lone` meets its contract: from what its calls ensure. Assumes nothing.
 use mathlib.Core.Path.{refl}
-use borrow.Author.Rules.{rules}
 use Rattle.change.proofs.put_lone.Goals as goal
 
 pub returns : goal.returns

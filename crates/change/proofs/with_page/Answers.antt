@@ -1,5 +1,4 @@
 -- `change::with_page` meets its contract: from what its calls ensure; on one plane the last page leaves no trace. Assumes nothing.
-use borrow.Author.Rules.{rules}
 use Rattle.change.proofs.Carrying.{last_one}
 use Rattle.change.proofs.with_page.Goals as goal
 

@@ -1,6 +1,5 @@
 -- `change::with_written` meets its contract: from what its calls ensure; on one plane the last page leaves no trace. Assumes nothing.
 use borrow.Author.Tests.{eq-eqb, ne_eqb}
-use borrow.Author.Rules.{rules}
 use Rattle.change.proofs.Carrying.{last_one}
 use Rattle.change.proofs.with_written.Goals as goal
 

@@ -1,7 +1,6 @@
 -- `change::write_held` meets its contract: with nothing written, nothing is programmed; else from what `program_held` ensures. Assumes nothing.
 use mathlib.Core.Path.{refl}
 use native.Mathlib.Omega.{arith}
-use borrow.Author.Rules.{rules}
 use Rattle.change.proofs.write_held.Goals as goal
 
 pub returns-then-n-eq0 : goal.returns-then-n-eq0

@@ -1,6 +1,5 @@
 -- `change::write_in` meets its contract: the page held before lies on the next page, which is erased where one is due, and the new one is held. Assumes nothing.
 use native.Mathlib.Omega.{arith}
-use borrow.Author.Rules.{rules}
 use Rattle.change.proofs.Framed.{frame_in}
 use Rattle.change.proofs.Next.{next_fits, next_small, next_erased, some_pages}
 use Rattle.change.proofs.Carrying.{write_done}

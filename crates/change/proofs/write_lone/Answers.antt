@@ -1,6 +1,5 @@
 -- `change::write_lone` meets its contract: the page lies on the next page, which is erased, and is entered in the map. Assumes nothing.
 use native.Mathlib.Omega.{arith}
-use borrow.Author.Rules.{rules}
 use Rattle.change.proofs.Framed.{frame_in}
 use Rattle.change.proofs.Next.{next_fits, next_small, next_erased, some_pages}
 use Rattle.change.proofs.Carrying.{lone_done}

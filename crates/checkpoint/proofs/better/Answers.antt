@@ -1,8 +1,6 @@
 -- `checkpoint::better` meets its contract: a complete checkpoint, and newer. Assumes nothing.
 use mathlib.Core.Bool.{Bool, cond, ◌&&◌}
 use mathlib.Core.Path.{ap, sym, ◌∙◌}
-use borrow.Author.Tests.{not-true, not-false}
-use borrow.Author.Rules.{rules}
 use Rattle.model.specs.Checkpoint.{at, newer}
 use Rattle.checkpoint.specs.Found.{found_of}
 use Rattle.checkpoint.proofs.better.Goals as goal

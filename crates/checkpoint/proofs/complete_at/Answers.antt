@@ -2,8 +2,6 @@
 use mathlib.Core.Bool.{Bool, ◌&&◌}
 use mathlib.Core.Path.{ap, sym, ◌∙◌}
 use Prim.Native.Nat.{ℕ, ◌+◌}
-use borrow.Author.Tests.{not-true, not-false}
-use borrow.Author.Rules.{rules}
 use Rattle.model.specs.Checkpoint.{zone_spare, page_is, maps_at, number_at, complete_at}
 use Rattle.checkpoint.proofs.complete_at.Goals as goal
 

@@ -1,6 +1,5 @@
 -- `checkpoint::is_newer` meets its contract: by what was found so far. Assumes nothing.
 use mathlib.Core.Path.{ap, sym}
-use borrow.Author.Rules.{rules}
 use Rattle.model.specs.Checkpoint.{newer}
 use Rattle.checkpoint.proofs.Search.{in_same}
 use Rattle.checkpoint.specs.Found.{found_of}

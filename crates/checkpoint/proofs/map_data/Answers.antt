@@ -1,8 +1,7 @@
 -- `checkpoint::map_data` meets its contract. The loop's invariant: the first bytes are those of `j` entries. Assumes nothing.
-use mathlib.Core.Path.{◌≡◌, refl}
-use Prim.Native.Nat.{◌-◌, ◌*◌, ◌≤◌}
+use mathlib.Core.Path.{refl}
+use Prim.Native.Nat.{◌*◌}
 use native.Mathlib.Omega.{arith}
-use lib.ListN.{length, take}
 use borrow.Author.Rules.{rules}
 use Rattle.model.specs.Checkpoint.{map_bytes}
 use Rattle.checkpoint.proofs.Maps.{stored_more, stored_all}

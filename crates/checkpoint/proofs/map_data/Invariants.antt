@@ -1,11 +1,8 @@
 -- `checkpoint::map_data` meets its contract. The loop's invariant: the first bytes are those of `j` entries. Assumes nothing.
-use mathlib.Core.Path.{◌≡◌, refl}
+use mathlib.Core.Path.{◌≡◌}
 use Prim.Native.Nat.{◌-◌, ◌*◌, ◌≤◌}
-use native.Mathlib.Omega.{arith}
 use lib.ListN.{length, take}
-use borrow.Author.Rules.{rules}
 use Rattle.model.specs.Checkpoint.{map_bytes}
-use Rattle.checkpoint.proofs.Maps.{stored_more, stored_all}
 use Rattle.checkpoint.proofs.map_data.Given as goal
 
 abbrev pub invariant-loop-j : goal.invariant-loop-j

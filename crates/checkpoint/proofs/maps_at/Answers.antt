@@ -1,9 +1,8 @@
 -- `checkpoint::maps_at` meets its contract. The loop's invariant: the first `i` pages are as they should be. Assumes nothing.
-use mathlib.Core.Path.{◌≡◌, ap, sym, ◌∙◌}
-use Prim.Native.Nat.{◌+◌, ◌-◌, ◌≤◌}
+use mathlib.Core.Path.{ap, sym, ◌∙◌}
+use Prim.Native.Nat.{◌+◌}
 use native.Mathlib.Omega.{arith}
-use borrow.Author.Tests.{not-true, not-false}
-use Rattle.model.specs.Checkpoint.{page_is, maps_at}
+use Rattle.model.specs.Checkpoint.{page_is}
 use Rattle.checkpoint.proofs.Maps.{maps_start, maps_pass, maps_fail, maps_end}
 use Rattle.checkpoint.proofs.maps_at.Goals as goal
 

@@ -1,10 +1,7 @@
 -- `checkpoint::maps_at` meets its contract. The loop's invariant: the first `i` pages are as they should be. Assumes nothing.
-use mathlib.Core.Path.{◌≡◌, ap, sym, ◌∙◌}
+use mathlib.Core.Path.{◌≡◌}
 use Prim.Native.Nat.{◌+◌, ◌-◌, ◌≤◌}
-use native.Mathlib.Omega.{arith}
-use borrow.Author.Tests.{not-true, not-false}
-use Rattle.model.specs.Checkpoint.{page_is, maps_at}
-use Rattle.checkpoint.proofs.Maps.{maps_start, maps_pass, maps_fail, maps_end}
+use Rattle.model.specs.Checkpoint.{maps_at}
 use Rattle.checkpoint.proofs.maps_at.Given as goal
 
 abbrev pub invariant-loop-i : goal.invariant-loop-i

@@ -1,12 +1,12 @@
 -- `checkpoint::newest_from` meets its contract. The loop's invariant: `found` is the newest that starts on the first `i` pages. Assumes nothing.
 use mathlib.Core.Bool.{◌&&◌}
-use mathlib.Core.Path.{◌≡◌, sym}
-use Prim.Native.Nat.{◌+◌, ◌-◌, ◌≤◌}
+use mathlib.Core.Path.{sym}
+use Prim.Native.Nat.{◌+◌}
 use native.Mathlib.Omega.{arith}
 use lib.ListN.{length}
-use Rattle.model.specs.Checkpoint.{complete_at, newer, newest_from}
+use Rattle.model.specs.Checkpoint.{complete_at, newer}
 use Rattle.checkpoint.proofs.Search.{found_start, found_more, found_end, in_better}
-use Rattle.checkpoint.specs.Found.{found_of, FoundIn}
+use Rattle.checkpoint.specs.Found.{found_of}
 use Rattle.checkpoint.proofs.newest_from.Goals as goal
 
 pub loop-i-init : goal.loop-i-init

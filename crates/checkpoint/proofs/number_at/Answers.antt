@@ -1,6 +1,5 @@
 -- `checkpoint::number_at` meets its contract: from what its call ensures. Assumes nothing.
 use mathlib.Core.Path.{ap}
-use borrow.Author.Rules.{rules}
 use Rattle.model.specs.declared.Spare.{Spare}
 use Rattle.model.specs.Checkpoint.{number_at}
 use Rattle.checkpoint.proofs.number_at.Goals as goal

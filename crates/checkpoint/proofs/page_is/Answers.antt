@@ -1,8 +1,6 @@
 -- `checkpoint::page_is` meets its contract: the spare area first, then the count of the page's zero bits. Assumes nothing.
 use mathlib.Core.Bool.{Bool, ◌&&◌, and-true}
 use mathlib.Core.Path.{ap, sym, ◌∙◌}
-use borrow.Author.Tests.{not-true, not-false}
-use borrow.Author.Rules.{rules}
 use Rattle.model.specs.Checkpoint.{same_spare, page_is}
 use Rattle.model.specs.Page.{class_of, is_whole, spare_of, whole_at}
 use Rattle.model.specs.declared.Spare.{Spare}

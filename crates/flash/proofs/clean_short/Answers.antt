@@ -2,7 +2,7 @@
 use mathlib.Core.Path.{◌≡◌, refl, ap, ◌∙◌}
 use Prim.Native.Nat.{◌-◌, ◌≤◌}
 use native.Mathlib.Omega.{arith}
-use lib.ListN.{length, drop, drop_of_length-le}
+use lib.ListN.{length, drop_of_length-le}
 use lib.Dec.{ltb}
 use Rattle.model.specs.Zones.{used_in, clean_in}
 use Rattle.flash.proofs.Scanning.{clean_more, left_over}

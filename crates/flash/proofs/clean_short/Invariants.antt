@@ -1,11 +1,8 @@
 -- `flash::clean_short` meets its contract. The loop's invariant: what the blocks from the `i`-th on leave of `due` is what all blocks leave of `least`. Assumes nothing.
-use mathlib.Core.Path.{◌≡◌, refl, ap, ◌∙◌}
+use mathlib.Core.Path.{◌≡◌}
 use Prim.Native.Nat.{◌-◌, ◌≤◌}
-use native.Mathlib.Omega.{arith}
-use lib.ListN.{length, drop, drop_of_length-le}
-use lib.Dec.{ltb}
-use Rattle.model.specs.Zones.{used_in, clean_in}
-use Rattle.flash.proofs.Scanning.{clean_more, left_over}
+use lib.ListN.{length, drop}
+use Rattle.model.specs.Zones.{clean_in}
 use Rattle.flash.proofs.clean_short.Given as goal
 
 abbrev pub invariant-loop-i : goal.invariant-loop-i

@@ -1,5 +1,4 @@
 -- `flash::is_blank` meets its contract: from what its calls ensure. Assumes nothing.
-use borrow.Author.Rules.{rules}
 use Rattle.model.specs.Page.{blank_at}
 use Rattle.flash.proofs.is_blank.Goals as goal
 

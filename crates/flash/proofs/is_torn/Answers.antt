@@ -1,5 +1,4 @@
 -- `flash::is_torn` meets its contract: from what its calls ensure. Assumes nothing.
-use borrow.Author.Rules.{rules}
 use Rattle.model.specs.Page.{torn_at}
 use Rattle.flash.proofs.is_torn.Goals as goal
 

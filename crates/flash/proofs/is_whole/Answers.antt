@@ -1,5 +1,4 @@
 -- `flash::is_whole` meets its contract: from what its calls ensure. Assumes nothing.
-use borrow.Author.Rules.{rules}
 use Rattle.model.specs.Page.{whole_at}
 use Rattle.flash.proofs.is_whole.Goals as goal
 

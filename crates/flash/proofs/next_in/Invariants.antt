@@ -1,10 +1,8 @@
 -- `flash::next_in` meets its contract. The loop's invariant: no block before the `i`-th has clean pages. Assumes nothing.
-use mathlib.Core.Path.{◌≡◌, refl, sym, ap, ◌∙◌}
+use mathlib.Core.Path.{◌≡◌}
 use Prim.Native.Nat.{◌-◌, ◌≤◌}
-use native.Mathlib.Omega.{arith}
-use lib.ListN.{length, drop, drop_of_length-le}
-use Rattle.model.specs.Zones.{used_in, next_in}
-use Rattle.flash.proofs.Scanning.{next_here, next_more}
+use lib.ListN.{length, drop}
+use Rattle.model.specs.Zones.{next_in}
 use Rattle.flash.proofs.next_in.Given as goal
 
 abbrev pub invariant-loop-i : goal.invariant-loop-i

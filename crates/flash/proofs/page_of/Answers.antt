@@ -2,7 +2,6 @@
 use native.Mathlib.Nat.{add-sub_cancel_left}
 use native.Mathlib.Omega.{arith}
 use lib.ListN.{length-take, length-drop}
-use borrow.Author.Rules.{rules}
 use Rattle.model.specs.Lists.{part}
 use Rattle.model.specs.Page.{page_at}
 use Rattle.flash.proofs.page_of.Goals as goal

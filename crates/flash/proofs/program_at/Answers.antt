@@ -2,7 +2,6 @@
 use native.Mathlib.Omega.{arith}
 use native.Mathlib.Nat.{add-sub_cancel_left}
 use lib.Seq.{drop-drop}
-use borrow.Author.Rules.{rules}
 use Rattle.model.specs.Lists.{splice}
 use Rattle.model.specs.Page.{page_bytes, put_page}
 use Rattle.arrays.specs.Image.{image_length}

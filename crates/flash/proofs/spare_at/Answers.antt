@@ -1,5 +1,4 @@
 -- `flash::spare_at` meets its contract: from what its calls ensure. Assumes nothing.
-use borrow.Author.Rules.{rules}
 use Rattle.flash.proofs.spare_at.Goals as goal
 
 pub returns : goal.returns

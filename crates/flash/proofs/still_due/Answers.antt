@@ -1,8 +1,7 @@
 -- `flash::still_due` meets its contract. The loop's invariant: the pages of the block from `n` on are erased, and with `left` they are those due. Assumes nothing.
 use mathlib.Core.Path.{◌≡◌, refl, sym, ap, ◌∙◌}
-use Prim.Native.Nat.{suc, ◌+◌, ◌-◌, ◌*◌, ◌≤◌}
+use Prim.Native.Nat.{suc, ◌-◌, ◌*◌}
 use native.Mathlib.Omega.{arith}
-use borrow.Author.Tests.{not-true, not-false}
 use Rattle.model.specs.Page.{used_from}
 use Rattle.model.specs.Zones.{used_in}
 use Rattle.arrays.specs.Used.{used_zero, used_clean_end, used_end, used_le}

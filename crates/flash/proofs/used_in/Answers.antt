@@ -3,7 +3,6 @@ use Prim.Native.Nat.{◌*◌}
 use native.Mathlib.Omega.{arith}
 use Rattle.model.specs.Zones.{used_in}
 use Rattle.arrays.specs.Used.{used_le}
-use borrow.Author.Rules.{rules}
 use Rattle.flash.proofs.used_in.Goals as goal
 
 pub returns : goal.returns

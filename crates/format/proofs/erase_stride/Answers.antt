@@ -1,6 +1,5 @@
 -- `format::erase_stride` meets its contract: block k is erased, and the map and the state are made anew. Assumes nothing.
 use Rattle.format.proofs.Strides.{block_in, erases}
-use borrow.Author.Rules.{rules}
 use Rattle.format.proofs.erase_stride.Goals as goal
 
 pub erase_block-requires : goal.erase_block-requires

@@ -3,7 +3,6 @@ use mathlib.Core.Path.{◌≡◌}
 use Prim.Native.Nat.{◌+◌}
 use native.Mathlib.Omega.{arith}
 use Rattle.model.specs.Geometry.{map_pages}
-use borrow.Author.Rules.{rules}
 use Rattle.format.proofs.format_stride.Goals as goal
 
 pub last_stride-requires : goal.last_stride-requires

@@ -1,7 +1,6 @@
 -- `format::strides_done` meets its contract: by the cases of the work. Assumes nothing.
 use mathlib.Core.Path.{sym, ap}
 use Rattle.model.specs.Strides.{strides_done}
-use borrow.Author.Rules.{rules}
 use Rattle.format.proofs.strides_done.Goals as goal
 
 pub returns-then-same_geometry : goal.returns-then-same_geometry

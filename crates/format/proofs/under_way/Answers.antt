@@ -1,5 +1,4 @@
 -- `format::under_way` meets its contract: from what its calls ensure. Assumes nothing.
-use borrow.Author.Rules.{rules}
 use Rattle.format.proofs.under_way.Goals as goal
 
 pub returns : goal.returns

@@ -2,9 +2,7 @@
 use mathlib.Core.Path.{sym, ap}
 use mathlib.Core.List.{List}
 use Prim.Native.Nat.{ℕ}
-use borrow.Author.Tests.{not-true, not-false}
 use Rattle.model.specs.Strides.{format_work_ok}
-use borrow.Author.Rules.{rules}
 use Rattle.format.proofs.work_ok.Goals as goal
 
 pub returns-then-not-same_geometry : goal.returns-then-not-same_geometry

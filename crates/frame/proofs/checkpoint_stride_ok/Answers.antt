@@ -1,7 +1,6 @@
 -- `frame::checkpoint_stride_ok` meets its contract: a test after the other, and the next front page lies in the front block. Assumes nothing.
 use mathlib.Core.Path.{◌≡◌, ap}
 use mathlib.Core.Bool.{true, not, ◌||◌}
-use mathlib.Core.Logic.{⊎_elim}
 use lib.Dec.{eqb}
 use native.Mathlib.Omega.{arith}
 use borrow.Author.Tests.{lt-ltb, le-ltb, le-leb, lt-leb, eq-eqb, ne_eqb}
@@ -9,7 +8,6 @@ use Rattle.model.specs.Frame.{checkpoint_stride_ok}
 use Rattle.arrays.specs.Ranges.{geometry_in, maps_few}
 use Rattle.arrays.specs.Tests.{or_left, or_right}
 use Rattle.frame.proofs.Within.{next_page_law}
-use borrow.Author.Rules.{rules}
 use Rattle.frame.proofs.checkpoint_stride_ok.Goals as goal
 use Rattle.frame.proofs.checkpoint_stride_ok.Goals.{then-n-eq0+else-q-ne0, else-n-eq0}
 
@@ -52,9 +50,9 @@ pub returns : goal.returns
 unfolding checkpoint_stride_ok
 returns c =
     let a = c.args in
-    let b : (not (eqb a.k 0) || eqb a.first 0) ≡ true = 
-        elim c.if-n-eq0.branch [
-          then-n-eq0+else-q-ne0 t ↦ or_right (not (eqb a.k 0)) (eqb a.first 0) (eq-eqb a.first 0 t.if-q-ne0.false)
-        | else-n-eq0 t ↦ or_left (not (eqb a.k 0)) (eqb a.first 0) (ap not (ne_eqb a.k 0 t.if-n-eq0.false))
-        ] in
+    let b : (not (eqb a.k 0) || eqb a.first 0) ≡ true =
+    elim c.if-n-eq0.branch [
+      | then-n-eq0+else-q-ne0 t ↦ or_right (not (eqb a.k 0)) (eqb a.first 0) (eq-eqb a.first 0 t.if-q-ne0.false)
+      | else-n-eq0 t ↦ or_left (not (eqb a.k 0)) (eqb a.first 0) (ap not (ne_eqb a.k 0 t.if-n-eq0.false))
+    ] in
     simp (← c.map_pages-m.ensures, le-leb _ _ c.if-n-m.false, lt-ltb _ _ c.if-q-m.false, b, c.is_blank.ensures)

@@ -5,7 +5,6 @@ use borrow.Author.Tests.{lt-ltb, le-ltb, le-leb, lt-leb}
 use Rattle.model.specs.Frame.{format_stride_ok}
 use Rattle.arrays.specs.Ranges.{geometry_in, maps_few}
 use Rattle.frame.proofs.Within.{front_page_law}
-use borrow.Author.Rules.{rules}
 use Rattle.frame.proofs.format_stride_ok.Goals as goal
 
 pub returns-then-n-lt1 : goal.returns-then-n-lt1

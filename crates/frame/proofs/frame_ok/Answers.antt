@@ -1,13 +1,11 @@
 -- `frame::frame_ok` meets its contract: a test after the other, each from what its call ensures. Assumes nothing.
 -- `one` to `four` are where the tests of the buffers, the map, the zones and the places are passed.
 use mathlib.Core.Path.{sym, ◌∙◌}
-use borrow.Author.Tests.{not-true, not-false}
 use Rattle.model.specs.Geometry.{geometry_ok, lengths_ok}
 use Rattle.model.specs.World.{World}
 use Rattle.arrays.specs.Tests.{and_left, and_right}
 use Rattle.arrays.specs.Ranges.{lengths_in}
 use Rattle.frame.proofs.Gates.{lent_is, frame_not_lent, frame_bad_map, frame_bad_zones, frame_bad_places, frame_bad_front, frame_by_work}
-use borrow.Author.Rules.{rules}
 use Rattle.frame.proofs.frame_ok.Goals as goal
 
 pub returns-then-not-lent_ok : goal.returns-then-not-lent_ok

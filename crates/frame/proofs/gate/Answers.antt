@@ -1,9 +1,7 @@
 -- `frame::gate` meets its contract: the frame first, then the work under way. Assumes nothing.
 use mathlib.Core.Path.{sym, ◌∙◌}
-use borrow.Author.Tests.{not-true, not-false}
 use Rattle.model.specs.World.{World}
 use Rattle.frame.proofs.Gates.{gate_bad, gate_own, gate_idle, gate_busy}
-use borrow.Author.Rules.{rules}
 use Rattle.frame.proofs.gate.Goals as goal
 
 pub returns-then-not-frame_ok : goal.returns-then-not-frame_ok

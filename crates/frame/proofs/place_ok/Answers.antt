@@ -1,8 +1,6 @@
 -- `frame::place_ok` meets its contract: by the count and the identifier, then by what its calls ensure. Assumes nothing.
 use mathlib.Core.Path.{sym}
-use borrow.Author.Tests.{not-true, not-false}
 use Rattle.frame.proofs.Places.{place_long, place_unnamed, place_empty, place_free, place_written}
-use borrow.Author.Rules.{rules}
 use Rattle.frame.proofs.place_ok.Goals as goal
 
 pub returns-then-p-most_pages : goal.returns-then-p-most_pages

@@ -1,10 +1,8 @@
 -- `frame::places_ok` meets its contract. The loop's invariant: the places before the `i`-th are in range, and none shares an identifier with a later one. Assumes nothing.
-use mathlib.Core.Path.{◌≡◌, refl, sym, ap, ◌∙◌}
-use Prim.Native.Nat.{◌+◌, ◌-◌, ◌≤◌}
-use lib.ListN.{length, drop, get_or}
+use mathlib.Core.Path.{refl, sym, ap, ◌∙◌}
+use Prim.Native.Nat.{◌+◌}
+use lib.ListN.{drop, get_or}
 use native.Mathlib.Omega.{arith}
-use borrow.Author.Tests.{not-true, not-false}
-use Rattle.model.specs.Lists.{all_tails}
 use Rattle.model.specs.Frame.{no_place, places_ok}
 use Rattle.blocks.proofs.Loops.{tails_pass, tails_fail, tails_end}
 use Rattle.frame.specs.Ids.{id_alone}

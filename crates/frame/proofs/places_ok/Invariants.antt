@@ -1,15 +1,9 @@
 -- `frame::places_ok` meets its contract. The loop's invariant: the places before the `i`-th are in range, and none shares an identifier with a later one. Assumes nothing.
-use mathlib.Core.Path.{◌≡◌, refl, sym, ap, ◌∙◌}
-use Prim.Native.Nat.{◌+◌, ◌-◌, ◌≤◌}
-use lib.ListN.{length, drop, get_or}
-use native.Mathlib.Omega.{arith}
-use borrow.Author.Tests.{not-true, not-false}
+use mathlib.Core.Path.{◌≡◌}
+use Prim.Native.Nat.{◌-◌, ◌≤◌}
+use lib.ListN.{length, drop}
 use Rattle.model.specs.Lists.{all_tails}
-use Rattle.model.specs.Frame.{no_place, places_ok}
-use Rattle.blocks.proofs.Loops.{tails_pass, tails_fail, tails_end}
-use Rattle.frame.specs.Ids.{id_alone}
-use Rattle.frame.proofs.Places.{place_among, alone_ids}
-use borrow.Author.Rules.{rules}
+use Rattle.frame.proofs.Places.{place_among}
 use Rattle.frame.proofs.places_ok.Given as goal
 
 abbrev pub invariant-loop-i : goal.invariant-loop-i

@@ -5,7 +5,6 @@ use native.Mathlib.Omega.{arith}
 use Rattle.model.specs.Lists.{all}
 use Rattle.arrays.specs.Ranges.{geometry_in}
 use Rattle.frame.proofs.Within.{page_within, pages_most}
-use borrow.Author.Rules.{rules}
 use Rattle.frame.proofs.ppns_ok.Goals as goal
 
 pub overflow_mul-lo : goal.overflow_mul-lo

@@ -2,7 +2,6 @@
 use mathlib.Core.Path.{sym, ap}
 use borrow.Author.Tests.{eq-eqb, ne_eqb}
 use Rattle.model.specs.Frame.{work_ok}
-use borrow.Author.Rules.{rules}
 use Rattle.frame.proofs.work_ok.Goals as goal
 
 pub returns-then-first-ne0 : goal.returns-then-first-ne0

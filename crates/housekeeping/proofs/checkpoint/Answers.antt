@@ -7,7 +7,6 @@ use Rattle.model.specs.Commands.{checkpoint}
 use Rattle.arrays.specs.Order.{Unless}
 use Rattle.frame.proofs.Outcomes.{refusal_known, refuses, passes, carries}
 use Rattle.housekeeping.proofs.Striding.{frame_fit, frame_work}
-use borrow.Author.Rules.{rules}
 use Rattle.housekeeping.proofs.checkpoint.Goals as goal
 
 pub refused-requires : goal.refused-requires

@@ -4,7 +4,6 @@ use Rattle.model.specs.Order.{first_number}
 use Rattle.model.specs.Strides.{is_checkpoint}
 use Rattle.frame.proofs.Gates.{gate_first, gate_passed}
 use Rattle.frame.proofs.Outcomes.{number_spent, number_left}
-use borrow.Author.Rules.{rules}
 use Rattle.housekeeping.proofs.checkpoint_refusal.Goals as goal
 
 pub returns-then-n-ne0 : goal.returns-then-n-ne0

@@ -5,7 +5,6 @@ use Rattle.model.specs.Commands.{reclaim}
 use Rattle.arrays.specs.Order.{Unless}
 use Rattle.frame.proofs.Outcomes.{refusal_known, refuses, passes, carries}
 use Rattle.housekeeping.proofs.Striding.{frame_fit, block_going}
-use borrow.Author.Rules.{rules}
 use Rattle.housekeeping.proofs.reclaim.Goals as goal
 
 pub refused-requires : goal.refused-requires

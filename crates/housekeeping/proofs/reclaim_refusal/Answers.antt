@@ -3,7 +3,6 @@ use Rattle.model.specs.World.{World}
 use Rattle.model.specs.Strides.{is_reclaim}
 use Rattle.frame.proofs.Gates.{gate_first, gate_passed}
 use Rattle.housekeeping.proofs.Striding.{frame_fit, looked_on}
-use borrow.Author.Rules.{rules}
 use Rattle.housekeeping.proofs.reclaim_refusal.Goals as goal
 
 pub returns-then-n-ne0 : goal.returns-then-n-ne0

@@ -2,7 +2,6 @@
 use native.Mathlib.Omega.{arith}
 use Rattle.lines.specs.Text.{blocks_line}
 use Rattle.text.proofs.Putting.{puts, put_within}
-use borrow.Author.Rules.{rules}
 use Rattle.lines.proofs.blocks_line.Goals as goal
 
 pub returns : goal.returns

@@ -1,10 +1,6 @@
 -- `lines::line` meets its contract. The loop's invariant: what is left of name and text says what the whole says; the measure is what is left of the name. Assumes nothing.
-use mathlib.Core.Path.{◌≡◌, sym, ◌∙◌}
-use Prim.Native.Nat.{◌-◌, ◌≤◌}
+use mathlib.Core.Path.{sym, ◌∙◌}
 use native.Mathlib.Omega.{arith}
-use lib.ListN.{length, drop}
-use borrow.Author.Rules.{rules}
-use Rattle.lines.specs.Input.{line_of}
 use Rattle.lines.proofs.Parsing.{line_short, line_other, line_more, line_says, line_nothing, line_ends}
 use Rattle.lines.proofs.line.Goals as goal
 

@@ -1,11 +1,8 @@
 -- `lines::line` meets its contract. The loop's invariant: what is left of name and text says what the whole says; the measure is what is left of the name. Assumes nothing.
-use mathlib.Core.Path.{◌≡◌, sym, ◌∙◌}
+use mathlib.Core.Path.{◌≡◌}
 use Prim.Native.Nat.{◌-◌, ◌≤◌}
-use native.Mathlib.Omega.{arith}
 use lib.ListN.{length, drop}
-use borrow.Author.Rules.{rules}
 use Rattle.lines.specs.Input.{line_of}
-use Rattle.lines.proofs.Parsing.{line_short, line_other, line_more, line_says, line_nothing, line_ends}
 use Rattle.lines.proofs.line.Given as goal
 
 abbrev pub invariant-loop-i : goal.invariant-loop-i

@@ -1,10 +1,6 @@
 -- `lines::value` meets its contract. The loop's invariant: the number so far and the rest say what the whole says; the measure is what is left of the text. Assumes nothing.
-use mathlib.Core.Path.{◌≡◌, sym, ◌∙◌}
-use Prim.Native.Nat.{◌-◌, ◌≤◌}
+use mathlib.Core.Path.{sym, ◌∙◌}
 use native.Mathlib.Omega.{arith}
-use lib.ListN.{length, drop}
-use borrow.Author.Rules.{rules}
-use Rattle.lines.specs.Input.{value_from}
 use Rattle.lines.proofs.Parsing.{value_short, value_bare, value_end, value_low, value_high, value_long, value_large, value_more}
 use Rattle.lines.proofs.value.Goals as goal
 

@@ -1,12 +1,7 @@
 -- `load::all_unmapped` meets its contract. The loop's invariant: the lowest entry stands for those before the `i`-th. Assumes nothing.
-use mathlib.Core.Path.{◌≡◌, refl}
-use mathlib.Core.Bool.{◌&&◌}
-use Prim.Native.Nat.{◌-◌, ◌≤◌}
+use mathlib.Core.Path.{refl}
 use native.Mathlib.Omega.{arith}
-use lib.Dec.{eqb}
-use lib.ListN.{length, drop}
 use Rattle.model.specs.Geometry.{unmapped}
-use Rattle.model.specs.Lists.{all}
 use Rattle.load.proofs.Rest.{turn, end}
 use Rattle.load.proofs.all_unmapped.Goals as goal
 

@@ -1,11 +1,6 @@
 -- `load::all_zero` meets its contract. The loop's invariant: the highest byte stands for those before the `i`-th. Assumes nothing.
-use mathlib.Core.Path.{◌≡◌, refl}
-use mathlib.Core.Bool.{◌&&◌}
-use Prim.Native.Nat.{◌-◌, ◌≤◌}
+use mathlib.Core.Path.{refl}
 use native.Mathlib.Omega.{arith}
-use lib.Dec.{eqb}
-use lib.ListN.{length, drop}
-use Rattle.model.specs.Lists.{all}
 use Rattle.load.proofs.Rest.{turn, end}
 use Rattle.load.proofs.all_zero.Goals as goal
 

@@ -5,8 +5,6 @@ use native.Mathlib.Omega.{arith}
 use lib.Dec.{eqb}
 use lib.Seq.{length-take-le}
 use lib.ListN.{drop}
-use borrow.Author.Tests.{not-true, not-false}
-use borrow.Author.Rules.{rules}
 use Rattle.model.specs.Geometry.{unmapped}
 use Rattle.model.specs.Lists.{all}
 use Rattle.arrays.specs.Ranges.{maps_hold}

@@ -1,6 +1,5 @@
 -- `load::load_page` meets its contract: the numbers that `page::words16` reads are the entries (`page_read`). Assumes nothing.
 use native.Mathlib.Omega.{arith}
-use borrow.Author.Rules.{rules}
 use Rattle.load.proofs.Words.{page_read}
 use Rattle.load.proofs.load_page.Goals as goal
 

@@ -1,8 +1,6 @@
 -- `load::zone_page_ok` meets its contract: the counts, the lists, the rest. Assumes nothing.
 use mathlib.Core.Path.{refl}
 use native.Mathlib.Omega.{arith}
-use borrow.Author.Tests.{not-true, not-false}
-use borrow.Author.Rules.{rules}
 use Rattle.arrays.specs.Ranges.{geometry_in}
 use Rattle.load.proofs.Lists.{counts_fail, lists_fail, rest_decides}
 use Rattle.load.proofs.zone_page_ok.Goals as goal

@@ -2,7 +2,6 @@
 use mathlib.Core.Path.{refl}
 use Prim.Native.Nat.{◌+◌}
 use native.Mathlib.Omega.{arith}
-use borrow.Author.Rules.{rules}
 use Rattle.load.proofs.Lists.{part_kept, part_count, zones_read}
 use Rattle.load.proofs.zones_in.Goals as goal
 

@@ -5,7 +5,6 @@ use Rattle.model.specs.Transactions.{forget_plan}
 use Rattle.model.specs.Commands.{carried, abort}
 use Rattle.arrays.specs.Order.{Unless}
 use Rattle.frame.proofs.Outcomes.{refusal_known, refuses, passes, carries}
-use borrow.Author.Rules.{rules}
 use Rattle.opening.proofs.abort.Goals as goal
 
 pub refused-requires : goal.refused-requires

@@ -4,7 +4,6 @@ use borrow.Author.Tests.{le-leb, lt-leb}
 use Rattle.model.specs.World.{World}
 use Rattle.model.specs.Order.{first_number}
 use Rattle.frame.proofs.Gates.{gate_first, gate_passed}
-use borrow.Author.Rules.{rules}
 use Rattle.opening.proofs.abort_refusal.Goals as goal
 
 pub returns-then-n-ne0 : goal.returns-then-n-ne0

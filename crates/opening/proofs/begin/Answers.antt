@@ -4,7 +4,6 @@ use Rattle.model.specs.World.{World, apply_op}
 use Rattle.model.specs.Commands.{carried, begin}
 use Rattle.arrays.specs.Order.{Unless}
 use Rattle.frame.proofs.Outcomes.{refusal_known, refuses, passes, carries}
-use borrow.Author.Rules.{rules}
 use Rattle.opening.proofs.begin.Goals as goal
 
 pub refused-requires : goal.refused-requires

@@ -8,7 +8,6 @@ use Rattle.model.specs.Transactions.{live_id}
 use Rattle.arrays.specs.Frame.{frame_in}
 use Rattle.frame.proofs.Gates.{gate_first, gate_passed}
 use Rattle.frame.proofs.Outcomes.{frame_sized}
-use borrow.Author.Rules.{rules}
 use Rattle.opening.proofs.begin_refusal.Goals as goal
 
 pub returns-then-n-ne0 : goal.returns-then-n-ne0

@@ -1,5 +1,4 @@
 -- `opening::is_live` meets its contract: the places first, then the pages. Assumes that array and zone lists agree.
-use borrow.Author.Rules.{rules}
 use Rattle.opening.proofs.is_live.Goals as goal
 
 pub returns-then-is_active : goal.returns-then-is_active

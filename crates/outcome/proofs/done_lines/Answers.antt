@@ -3,7 +3,6 @@ use mathlib.Core.Path.{refl}
 use native.Mathlib.Omega.{arith}
 use Rattle.text.proofs.Putting.{puts, put_within, put_is}
 use Rattle.outcome.proofs.Answers.{done_text}
-use borrow.Author.Rules.{rules}
 use Rattle.outcome.proofs.done_lines.Goals as goal
 
 pub returns : goal.returns

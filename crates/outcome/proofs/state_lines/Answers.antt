@@ -2,7 +2,6 @@
 use native.Mathlib.Omega.{arith}
 use Rattle.outcome.specs.Text.{state_text}
 use Rattle.text.proofs.Putting.{puts, put_within}
-use borrow.Author.Rules.{rules}
 use Rattle.outcome.proofs.state_lines.Goals as goal
 
 pub returns : goal.returns

@@ -1,9 +1,7 @@
 -- `page::erase` meets its contract. The loop's invariant: the first `i` bytes are 0xFF, the others as they were (`Filled`). Assumes nothing.
 use Prim.Native.Nat.{◌-◌}
-use native.Mathlib.Omega.{arith}
 use lib.ListN.{length}
-use borrow.Author.Rules.{rules}
-use Rattle.page.proofs.Filled.{Filled, filled_none, filled_more, filled_all}
+use Rattle.page.proofs.Filled.{Filled}
 use Rattle.page.proofs.erase.Given as goal
 
 abbrev pub invariant-loop-i : goal.invariant-loop-i

@@ -1,14 +1,11 @@
 -- `page::erased` meets its contract. The loop's invariant: the answer is that of `common`, the bits that the first `w` words share,
 -- and of the bytes from word `w` on. Assumes nothing.
-use mathlib.Core.Path.{◌≡◌, refl, sym, ap, ◌∙◌}
-use mathlib.Core.Bool.{Bool, true, false, cond}
-use Prim.Native.Nat.{◌≤◌, ◌-◌, ◌+◌, ◌*◌}
-use native.Mathlib.Omega.{arith}
-use lib.ListN.{length, drop, drop_of_length-le}
+use mathlib.Core.Path.{◌≡◌}
+use mathlib.Core.Bool.{false, cond}
+use Prim.Native.Nat.{◌≤◌, ◌-◌, ◌*◌}
+use lib.ListN.{drop}
 use lib.Dec.{eqb}
-use lib.Bits.{and_le_l}
 use Rattle.model.specs.Bytes.{all_ff}
-use Rattle.page.proofs.Words.{not64, common64}
 use Rattle.page.proofs.erased.Given as goal
 
 abbrev pub invariant-loop-w : goal.invariant-loop-w

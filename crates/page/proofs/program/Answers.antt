@@ -1,7 +1,6 @@
 -- `page::program` meets its contract: the stores of its calls are the page's bytes, by `Storing`. Assumes nothing.
 use mathlib.Core.Path.{refl}
 use native.Mathlib.Omega.{arith}
-use borrow.Author.Rules.{rules}
 use Rattle.model.specs.Page.{page_bytes, spare_bytes}
 use Rattle.page.proofs.Storing.{steps}
 use Rattle.page.proofs.program.Goals as goal

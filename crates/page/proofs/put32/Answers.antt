@@ -1,5 +1,4 @@
 -- `page::put32` meets its contract: the bytes of both halves, one after the other. Assumes nothing.
-use borrow.Author.Rules.{rules}
 use Rattle.page.proofs.Storing.{two_halves}
 use Rattle.page.proofs.put32.Goals as goal
 

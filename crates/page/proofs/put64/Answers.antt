@@ -1,6 +1,5 @@
 -- `page::put64` meets its contract: two stores of 4 bytes, one after the other. Assumes nothing.
 use native.Mathlib.Numerals.{towards_suc}
-use borrow.Author.Rules.{rules}
 use Rattle.page.proofs.put64.Goals as goal
 
 pub returns : goal.returns

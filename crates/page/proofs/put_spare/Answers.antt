@@ -1,6 +1,5 @@
 -- `page::put_spare` meets its contract: its three words are the bytes of the spare area, by `Storing`. Assumes nothing.
 use native.Mathlib.Omega.{arith}
-use borrow.Author.Rules.{rules}
 use Rattle.page.proofs.Storing.{three_words}
 use Rattle.page.proofs.put_spare.Goals as goal
 

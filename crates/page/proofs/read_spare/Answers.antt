@@ -1,5 +1,4 @@
 -- `page::read_spare` meets its contract: field by field, from what its calls ensure. Assumes nothing.
-use borrow.Author.Rules.{rules}
 use Rattle.model.specs.Page.{spare_of}
 use Rattle.page.proofs.read_spare.Goals as goal
 

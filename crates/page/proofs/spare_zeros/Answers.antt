@@ -4,7 +4,6 @@ use Prim.Native.Nat.{ℕ, ◌<◌}
 use native.Mathlib.Omega.{arith}
 use lib.ListN.{get_or}
 use lib.Count.{ones, ones-le}
-use borrow.Author.Rules.{rules}
 use Rattle.page.specs.Counting.{spare_first, spare_first_law}
 use Rattle.page.proofs.Words.{more16, more32, more64}
 use Rattle.page.proofs.spare_zeros.Goals as goal

@@ -1,12 +1,10 @@
 -- `page::words16` meets its contract. The loop's invariant: the first i numbers are read (`Taken`). Assumes nothing.
 use mathlib.Core.Path.{refl}
-use Prim.Native.Nat.{ℕ, ◌+◌, ◌-◌, ◌*◌, ◌≤◌}
 use native.Mathlib.Omega.{arith}
-use lib.ListN.{length}
 use borrow.Author.Rules.{rules}
 use Rattle.model.specs.Lists.{part}
 use Rattle.model.specs.Bytes.{words}
-use Rattle.page.proofs.Taken.{Filling, filling_none, filling_more, filling_all, halves_more}
+use Rattle.page.proofs.Taken.{filling_none, filling_more, filling_all, halves_more}
 use Rattle.page.proofs.words16.Goals as goal
 
 pub loop-i-init : goal.loop-i-init

@@ -1,10 +1,9 @@
 -- `page::zeros` meets its contract. The loop's invariant: the spare area before Zeros and the first `w` words of the data are counted; after the last word that
 -- is the total (`spare_first_law`). Assumes nothing.
 use mathlib.Core.Path.{◌≡◌, ap, ◌∙◌}
-use Prim.Native.Nat.{◌≤◌, ◌-◌, ◌+◌, ◌*◌}
+use Prim.Native.Nat.{◌+◌, ◌*◌}
 use native.Mathlib.Omega.{arith}
 use lib.Count.{ones, ones-le}
-use borrow.Author.Rules.{rules}
 use Rattle.model.specs.Bytes.{zero_bits}
 use Rattle.page.specs.Counting.{spare_first, spare_first_law}
 use Rattle.page.proofs.Words.{spare_first_le, more64}

@@ -1,13 +1,8 @@
 -- `page::zeros` meets its contract. The loop's invariant: the spare area before Zeros and the first `w` words of the data are counted; after the last word that
 -- is the total (`spare_first_law`). Assumes nothing.
-use mathlib.Core.Path.{◌≡◌, ap, ◌∙◌}
+use mathlib.Core.Path.{◌≡◌}
 use Prim.Native.Nat.{◌≤◌, ◌-◌, ◌+◌, ◌*◌}
-use native.Mathlib.Omega.{arith}
-use lib.Count.{ones, ones-le}
-use borrow.Author.Rules.{rules}
-use Rattle.model.specs.Bytes.{zero_bits}
-use Rattle.page.specs.Counting.{spare_first, spare_first_law}
-use Rattle.page.proofs.Words.{spare_first_le, more64}
+use Rattle.page.specs.Counting.{spare_first}
 use Rattle.page.proofs.zeros.Given as goal
 
 abbrev pub invariant-loop-w : goal.invariant-loop-w

@@ -1,6 +1,5 @@
 -- `places::among` meets its contract: one is found below the end where any is, by `find_any`. Assumes nothing.
 use Rattle.places.proofs.Ids.{find_any}
-use borrow.Author.Rules.{rules}
 use Rattle.places.proofs.among.Goals as goal
 
 pub returns : goal.returns

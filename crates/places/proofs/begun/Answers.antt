@@ -2,7 +2,6 @@
 use mathlib.Core.Path.{ap}
 use Rattle.model.specs.Transactions.{begun}
 use Rattle.model.specs.declared.Place.{Place}
-use borrow.Author.Rules.{rules}
 use Rattle.places.proofs.begun.Goals as goal
 
 pub returns : goal.returns

@@ -1,6 +1,5 @@
 -- `places::find_id` meets its contract: the identifier is looked for among those of the places, by `find_ids`. Assumes nothing.
 use Rattle.places.proofs.Ids.{find_ids}
-use borrow.Author.Rules.{rules}
 use Rattle.places.proofs.find_id.Goals as goal
 
 pub returns : goal.returns

@@ -1,5 +1,4 @@
 -- `places::forgotten` meets its contract: from what its calls ensure. Assumes that there is such a place.
-use borrow.Author.Rules.{rules}
 use Rattle.places.proofs.forgotten.Goals as goal
 
 pub returns : goal.returns

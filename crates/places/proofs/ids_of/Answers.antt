@@ -1,10 +1,8 @@
 -- `places::ids_of` meets its contract. The loop's invariant: the first `i` identifiers are copied. Assumes nothing.
 use mathlib.Core.Path.{◌≡◌, refl}
-use Prim.Native.Nat.{◌-◌, ◌≤◌}
 use native.Mathlib.Omega.{arith}
-use lib.ListN.{length}
 use borrow.Author.Rules.{rules}
-use Rattle.places.proofs.Ids.{copied, copied_more, copied_all}
+use Rattle.places.proofs.Ids.{copied_more, copied_all}
 use Rattle.places.proofs.ids_of.Goals as goal
 
 pub loop-i-init : goal.loop-i-init

@@ -1,10 +1,7 @@
 -- `places::index_of` meets its contract. The loop's invariant: none before index `i` is the identifier. Assumes nothing.
-use mathlib.Core.Path.{◌≡◌, refl, sym}
-use Prim.Native.Nat.{◌+◌, ◌-◌, ◌≤◌}
+use mathlib.Core.Path.{refl, sym}
 use native.Mathlib.Omega.{arith}
-use lib.ListN.{length, drop}
 use borrow.Author.Tests.{eq-eqb, ne_eqb}
-use Rattle.model.specs.Lists.{find}
 use Rattle.places.specs.Ids.{is_id}
 use Rattle.places.proofs.Walk.{find_hit, find_more, find_end}
 use Rattle.places.proofs.index_of.Goals as goal

@@ -1,7 +1,6 @@
 -- `places::is_active_in` meets its contract: each return by the test that led to it. Assumes nothing.
 use borrow.Author.Tests.{eq-eqb, ne_eqb}
 use Rattle.places.specs.Ids.{active_in}
-use borrow.Author.Rules.{rules}
 use Rattle.places.proofs.is_active_in.Goals as goal
 
 pub returns-then-id-eq0 : goal.returns-then-id-eq0

@@ -1,7 +1,6 @@
 -- `places::place_of` meets its contract: each return by the test that led to it. Assumes nothing.
 use borrow.Author.Tests.{eq-eqb, ne_eqb}
 use Rattle.model.specs.Transactions.{place_of}
-use borrow.Author.Rules.{rules}
 use Rattle.places.proofs.place_of.Goals as goal
 
 pub returns-then-id-eq0 : goal.returns-then-id-eq0

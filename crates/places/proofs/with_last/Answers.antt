@@ -1,7 +1,6 @@
 -- `places::with_last` meets its contract: the result is `with_last`, field by field; on one plane it is the state itself. Assumes nothing.
 use borrow.Author.Tests.{eq-eqb, ne_eqb}
 use Rattle.model.specs.Transactions.{with_last}
-use borrow.Author.Rules.{rules}
 use Rattle.places.proofs.with_last.Goals as goal
 
 pub returns-then-s-ne2 : goal.returns-then-s-ne2

@@ -1,7 +1,6 @@
 -- `places::with_place` meets its contract: the result is `with_place`, field by field. Assumes nothing.
 use mathlib.Core.Path.{refl}
 use Rattle.model.specs.Transactions.{with_place}
-use borrow.Author.Rules.{rules}
 use Rattle.places.proofs.with_place.Goals as goal
 
 pub returns : goal.returns

@@ -1,7 +1,6 @@
 -- `places::written` meets its contract, field by field; with nothing written before, no page number is set. Assumes nothing.
 use borrow.Author.Tests.{eq-eqb, ne_eqb}
 use Rattle.model.specs.Transactions.{written}
-use borrow.Author.Rules.{rules}
 use Rattle.places.proofs.written.Goals as goal
 
 pub returns-then-n-eq0 : goal.returns-then-n-eq0

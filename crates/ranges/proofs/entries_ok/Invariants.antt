@@ -1,16 +1,11 @@
 -- `ranges::entries_ok` meets its contract. The loop's invariant: the entries before the `i`-th pass, and the flags hold the pages that they name. Assumes nothing.
-use mathlib.Core.Path.{◌≡◌, refl, sym, ◌∙◌}
-use mathlib.Core.Bool.{true, false}
+use mathlib.Core.Path.{◌≡◌}
 use Prim.Native.Nat.{◌-◌, ◌≤◌}
 use mathlib.Core.List.{[]}
-use lib.ListN.{length, take, drop, get_or, length-set}
-use native.Mathlib.Omega.{arith}
-use borrow.Author.Tests.{lt-ltb, le-ltb, le-leb, lt-leb, eq-eqb, ne_eqb}
-use Rattle.model.specs.Lists.{all_heads, elem}
-use Rattle.blocks.proofs.Loops.{heads_pass, heads_fail, heads_end}
+use lib.ListN.{length, take, drop}
+use Rattle.model.specs.Lists.{all_heads}
 use Rattle.ranges.specs.Ranges.{entry_within}
-use Rattle.ranges.proofs.Seen.{Marks, marks_none, marks_more, marks_skip}
-use borrow.Author.Rules.{rules}
+use Rattle.ranges.proofs.Seen.{Marks}
 use Rattle.ranges.proofs.entries_ok.Given as goal
 
 abbrev pub invariant-loop-i : goal.invariant-loop-i

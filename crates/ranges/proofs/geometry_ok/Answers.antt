@@ -8,7 +8,6 @@ use native.Mathlib.Omega.{arith}
 use native.Mathlib.Nat.{mul-le-mul_left}
 use borrow.Author.Tests.{le-leb, lt-leb}
 use Rattle.model.specs.Geometry.{geometry_ok}
-use borrow.Author.Rules.{rules}
 use Rattle.ranges.proofs.geometry_ok.Goals as goal
 
 -- all tests but that of the planes pass

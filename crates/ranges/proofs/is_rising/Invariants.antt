@@ -1,11 +1,8 @@
 -- `ranges::is_rising` meets its contract. The loop's invariant: each before the `i`-th is below the next, so that the list is rising where it is from there on. Assumes nothing.
-use mathlib.Core.Path.{◌≡◌, refl, sym}
+use mathlib.Core.Path.{◌≡◌}
 use Prim.Native.Nat.{◌-◌, ◌≤◌}
 use lib.ListN.{length, drop}
-use native.Mathlib.Omega.{arith}
-use borrow.Author.Tests.{lt-ltb, le-ltb}
 use Rattle.model.specs.Lists.{rising}
-use Rattle.ranges.proofs.Rising.{rising_pass, rising_fail, rising_end}
 use Rattle.ranges.proofs.is_rising.Given as goal
 
 abbrev pub invariant-loop-i : goal.invariant-loop-i

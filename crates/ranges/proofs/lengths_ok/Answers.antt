@@ -4,7 +4,6 @@ use native.Mathlib.Omega.{arith}
 use native.Mathlib.Nat.{mul-le-mul}
 use borrow.Author.Tests.{eq-eqb, ne_eqb}
 use Rattle.model.specs.Geometry.{lengths_ok}
-use borrow.Author.Rules.{rules}
 use Rattle.ranges.proofs.lengths_ok.Goals as goal
 
 pub overflow_mul-bytes : goal.overflow_mul-bytes

@@ -1,6 +1,4 @@
 -- `ranges::lent_ok_law` meets its contract: from what its calls ensure. Assumes nothing.
-use borrow.Author.Tests.{not-true, not-false}
-use borrow.Author.Rules.{rules}
 use Rattle.ranges.proofs.lent_ok.Goals as goal
 
 pub returns-then-not-geometry_ok : goal.returns-then-not-geometry_ok

@@ -4,12 +4,11 @@ use mathlib.Core.Bool.{true, false}
 use mathlib.Core.List.{[]}
 use Prim.Native.Nat.{◌+◌}
 use lib.ListN.{drop}
-use borrow.Author.Tests.{le-leb, lt-leb, not-true, not-false}
+use borrow.Author.Tests.{le-leb, lt-leb}
 use Rattle.model.specs.Lists.{all_heads, rising}
 use Rattle.model.specs.Geometry.{data_block}
 use Rattle.model.specs.Zones.{new_block}
 use Rattle.ranges.proofs.Listed.{laid_is, drop_rest}
-use borrow.Author.Rules.{rules}
 use Rattle.ranges.proofs.lists_ok.Goals as goal
 
 pub returns-then-na-gt3 : goal.returns-then-na-gt3

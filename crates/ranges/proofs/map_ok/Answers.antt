@@ -5,7 +5,6 @@ use native.Mathlib.Omega.{arith}
 use Rattle.model.specs.Geometry.{map_ok, entry_ok, data_page}
 use Rattle.arrays.specs.Ranges.{geometry_in}
 use Rattle.ranges.specs.Ranges.{entry_within}
-use borrow.Author.Rules.{rules}
 use Rattle.ranges.proofs.map_ok.Goals as goal
 
 pub overflow_mul-hi : goal.overflow_mul-hi

@@ -1,7 +1,6 @@
 -- `ranges::map_pages` meets its contract: it is the definition. Assumes nothing.
 use mathlib.Core.Path.{refl}
 use Rattle.model.specs.Geometry.{map_pages}
-use borrow.Author.Rules.{rules}
 use Rattle.ranges.proofs.map_pages.Goals as goal
 
 pub returns : goal.returns

@@ -4,7 +4,6 @@ use Rattle.model.specs.World.{World, apply_op}
 use Rattle.model.specs.Transactions.{read_answer}
 use Rattle.model.specs.Commands.{read, carried}
 use Rattle.frame.proofs.Outcomes.{refusal_known, refuses, carries}
-use borrow.Author.Rules.{rules}
 use Rattle.reading.proofs.read.Goals as goal
 
 pub refusal-requires : goal.refusal-requires

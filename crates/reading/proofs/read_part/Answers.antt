@@ -2,7 +2,6 @@
 use native.Mathlib.Omega.{arith}
 use Rattle.model.specs.World.{World}
 use Rattle.reading.proofs.Reading.{part_none, part_in_map, part_done, mapped_fits}
-use borrow.Author.Rules.{rules}
 use Rattle.reading.proofs.read_part.Goals as goal
 
 pub returns-then-refusal-ne0 : goal.returns-then-refusal-ne0

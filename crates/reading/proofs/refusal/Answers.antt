@@ -1,7 +1,6 @@
 -- `reading::refusal` meets its contract: a check after the other (`read_bad` to `read_done`). Assumes nothing.
 use Rattle.model.specs.World.{World}
 use Rattle.reading.proofs.Reading.{frame_failed, frame_passed, in_map, read_bad, read_past, read_never, read_done}
-use borrow.Author.Rules.{rules}
 use Rattle.reading.proofs.refusal.Goals as goal
 
 pub returns-then-not-frame_ok : goal.returns-then-not-frame_ok

@@ -5,7 +5,6 @@ use Rattle.reclaim.specs.Copies.{looked}
 use Rattle.reclaim.proofs.Room.{block_numbers}
 use Rattle.reclaim.proofs.Picking.{picked_block}
 use Rattle.reclaim.proofs.Carried.{block_gains_nothing, block_looked}
-use borrow.Author.Rules.{rules}
 use Rattle.reclaim.proofs.block_refusal.Goals as goal
 
 pub mapped_in-copies-requires : goal.mapped_in-copies-requires

@@ -1,5 +1,5 @@
 -- `reclaim::copy_stride` meets its contract: from what its calls ensure. Assumes nothing.
-use mathlib.Core.Path.{refl, sym}
+use mathlib.Core.Path.{refl}
 use native.Mathlib.Omega.{arith}
 use Rattle.change.proofs.Next.{next_fits, next_small, next_erased, some_pages}
 use Rattle.strides.proofs.Within.{fit_ready}

@@ -1,11 +1,8 @@
 -- `reclaim::find_page` meets its contract. The loop's invariant: no entry before index `i` is page `j`. Assumes nothing.
-use mathlib.Core.Path.{◌≡◌, sym}
-use Prim.Native.Nat.{◌+◌, ◌-◌, ◌≤◌}
+use mathlib.Core.Path.{sym}
 use native.Mathlib.Omega.{arith}
-use lib.ListN.{length, drop}
 use lib.Dec.{eqb}
 use borrow.Author.Tests.{eq-eqb, ne_eqb}
-use Rattle.model.specs.Lists.{find}
 use Rattle.blocks.proofs.Loops.{find_pass, find_hit, find_end}
 use Rattle.reclaim.proofs.find_page.Goals as goal
 

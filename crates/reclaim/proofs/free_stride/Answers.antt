@@ -1,7 +1,5 @@
 -- `reclaim::free_stride` meets its contract: from what its calls ensure; a block that is not listed has room in the free list. Assumes nothing.
-use mathlib.Core.Path.{◌≡◌}
 use native.Mathlib.Omega.{arith}
-use lib.ListN.{length}
 use Rattle.arrays.specs.Ranges.{geometry_in, block_most, data_block_fits}
 use Rattle.zones.proofs.Listed.{listed}
 use Rattle.reclaim.proofs.Room.{free_room}

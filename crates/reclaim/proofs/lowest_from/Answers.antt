@@ -1,9 +1,7 @@
 -- `reclaim::lowest_from` meets its contract. The loop's invariant: `least` is the lowest of the entries before index `i` that are at least `lo`, or `hi`. Assumes nothing.
-use mathlib.Core.Path.{◌≡◌, refl, sym, ◌∙◌}
-use Prim.Native.Nat.{◌-◌, ◌≤◌}
+use mathlib.Core.Path.{refl, sym, ◌∙◌}
 use native.Mathlib.Omega.{arith}
-use lib.ListN.{length}
-use Rattle.reclaim.proofs.Lowest.{Least, least_first, least_out, least_here, least_end}
+use Rattle.reclaim.proofs.Lowest.{least_first, least_out, least_here, least_end}
 use Rattle.reclaim.proofs.lowest_from.Goals as goal
 use Rattle.reclaim.proofs.lowest_from.Goals.{then-in_range, else-in_range}
 
@@ -33,8 +31,8 @@ loop-i-preserved c =
     let a = c.args in
     let e = sym c.in_range.ensures in
     elim c.if-in_range.branch [
-      then-in_range w ↦ (omega arith, (c.loop-i.invariant.1.0, rw w.least-is (least_here a.map.now a.lo a.hi c.loop-i.i c.loop-i.least c.loop-i.invariant.1.1 (omega arith) (e ∙ w.if-in_range.true))))
-    | else-in_range w ↦ (omega arith, (c.loop-i.invariant.1.0, rw w.least-is (least_out a.map.now a.lo a.hi c.loop-i.i c.loop-i.least c.loop-i.invariant.1.1 (e ∙ w.if-in_range.false))))
+      | then-in_range w ↦ (omega arith, (c.loop-i.invariant.1.0, rw w.least-is (least_here a.map.now a.lo a.hi c.loop-i.i c.loop-i.least c.loop-i.invariant.1.1 (omega arith) (e ∙ w.if-in_range.true))))
+      | else-in_range w ↦ (omega arith, (c.loop-i.invariant.1.0, rw w.least-is (least_out a.map.now a.lo a.hi c.loop-i.i c.loop-i.least c.loop-i.invariant.1.1 (e ∙ w.if-in_range.false))))
     ]
 
 pub returns : goal.returns

@@ -1,10 +1,8 @@
 -- `reclaim::lowest_from` meets its contract. The loop's invariant: `least` is the lowest of the entries before index `i` that are at least `lo`, or `hi`. Assumes nothing.
-use mathlib.Core.Path.{◌≡◌, refl, sym, ◌∙◌}
-use mathlib.Core.Logic.{⊎_elim}
+use mathlib.Core.Path.{◌≡◌}
 use Prim.Native.Nat.{◌-◌, ◌≤◌}
-use native.Mathlib.Omega.{arith}
 use lib.ListN.{length}
-use Rattle.reclaim.proofs.Lowest.{Least, least_first, least_out, least_here, least_end}
+use Rattle.reclaim.proofs.Lowest.{Least}
 use Rattle.reclaim.proofs.lowest_from.Given as goal
 
 abbrev pub invariant-loop-i : goal.invariant-loop-i

@@ -1,10 +1,9 @@
 -- `reclaim::mapped` meets its contract. The loop's invariant: the counts are those of the entries before index `i`. Assumes nothing.
 use mathlib.Core.Path.{refl}
-use Prim.Native.Nat.{◌-◌, ◌≤◌}
 use native.Mathlib.Omega.{arith}
 use native.Mathlib.Nat.{div-le_self}
-use lib.ListN.{length, get_or}
-use Rattle.reclaim.proofs.Counting.{Sums, sums_none, sums_skip, sums_more, sums_end, sum_few}
+use lib.ListN.{get_or}
+use Rattle.reclaim.proofs.Counting.{sums_none, sums_skip, sums_more, sums_end, sum_few}
 use Rattle.reclaim.proofs.mapped.Goals as goal
 
 pub loop-i-init : goal.loop-i-init

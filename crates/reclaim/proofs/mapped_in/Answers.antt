@@ -1,11 +1,8 @@
 -- `reclaim::mapped_in` meets its contract. The loop's invariant: `n` and those behind index `i` are the mapped pages of the block. Assumes nothing.
-use mathlib.Core.Path.{◌≡◌, refl, sym, ◌∙◌}
-use Prim.Native.Nat.{◌+◌, ◌*◌, ◌-◌, ◌≤◌}
+use mathlib.Core.Path.{refl, sym, ◌∙◌}
+use Prim.Native.Nat.{◌*◌, ◌≤◌}
 use native.Mathlib.Nat.{mul-le-mul}
 use native.Mathlib.Omega.{arith}
-use lib.ListN.{length, drop}
-use Rattle.model.specs.Lists.{count}
-use Rattle.model.specs.Strides.{mapped_in}
 use Rattle.reclaim.proofs.Counting.{in_block, mapped_is, count_pass, count_hit, count_end}
 use Rattle.reclaim.proofs.mapped_in.Goals as goal
 use Rattle.reclaim.proofs.mapped_in.Goals.{then-in_range, else-in_range}
@@ -52,8 +49,8 @@ loop-i-preserved c =
     let a = c.args in
     let e = sym c.in_range.ensures in
     elim c.if-in_range.branch [
-      then-in_range w ↦ (omega arith, (c.loop-i.invariant.1.0, (omega arith, rw w.n-is (count_hit (in_block a.pages a.b) a.map.now c.loop-i.i 0 c.loop-i.n (omega arith) c.loop-i.invariant.1.1.1 (e ∙ w.if-in_range.true)))))
-    | else-in_range w ↦ (omega arith, (c.loop-i.invariant.1.0, (omega arith, rw w.n-is (count_pass (in_block a.pages a.b) a.map.now c.loop-i.i 0 c.loop-i.n (omega arith) c.loop-i.invariant.1.1.1 (e ∙ w.if-in_range.false)))))
+      | then-in_range w ↦ (omega arith, (c.loop-i.invariant.1.0, (omega arith, rw w.n-is (count_hit (in_block a.pages a.b) a.map.now c.loop-i.i 0 c.loop-i.n (omega arith) c.loop-i.invariant.1.1.1 (e ∙ w.if-in_range.true)))))
+      | else-in_range w ↦ (omega arith, (c.loop-i.invariant.1.0, (omega arith, rw w.n-is (count_pass (in_block a.pages a.b) a.map.now c.loop-i.i 0 c.loop-i.n (omega arith) c.loop-i.invariant.1.1.1 (e ∙ w.if-in_range.false)))))
     ]
 
 pub returns : goal.returns

@@ -1,13 +1,10 @@
 -- `reclaim::mapped_in` meets its contract. The loop's invariant: `n` and those behind index `i` are the mapped pages of the block. Assumes nothing.
-use mathlib.Core.Path.{◌≡◌, refl, sym, ◌∙◌}
-use mathlib.Core.Logic.{⊎_elim}
-use Prim.Native.Nat.{◌+◌, ◌*◌, ◌-◌, ◌≤◌}
-use native.Mathlib.Nat.{mul-le-mul}
-use native.Mathlib.Omega.{arith}
+use mathlib.Core.Path.{◌≡◌}
+use Prim.Native.Nat.{◌+◌, ◌-◌, ◌≤◌}
 use lib.ListN.{length, drop}
 use Rattle.model.specs.Lists.{count}
 use Rattle.model.specs.Strides.{mapped_in}
-use Rattle.reclaim.proofs.Counting.{in_block, mapped_is, count_pass, count_hit, count_end}
+use Rattle.reclaim.proofs.Counting.{in_block}
 use Rattle.reclaim.proofs.mapped_in.Given as goal
 
 abbrev pub invariant-loop-i : goal.invariant-loop-i

@@ -1,7 +1,7 @@
 -- `reclaim::picked` meets its contract. The loop's invariant: what is picked of all blocks is picked of those from `b` on and of the best so far,
 -- whose count is `least`. Assumes nothing.
-use mathlib.Core.Path.{◌≡◌, refl, sym, ap, ◌∙◌}
-use Prim.Native.Nat.{◌-◌, ◌≤◌}
+use mathlib.Core.Path.{refl, sym, ap, ◌∙◌}
+use Prim.Native.Nat.{◌-◌}
 use native.Mathlib.Omega.{arith}
 use lib.ListN.{length}
 use Rattle.model.specs.Checkpoint.{nothing}
@@ -12,7 +12,6 @@ use Rattle.zones.proofs.Listed.{listed}
 use Rattle.checkpoint.specs.Found.{found_of}
 use Rattle.reclaim.specs.Copies.{with_listed}
 use Rattle.reclaim.proofs.Picking.{kept_length, kept_inside, listed_in_law, listed_length, least_of, pick_by, pick_pass, pick_hit, pick_end, pick_by_law}
-use borrow.Author.Rules.{rules}
 use Rattle.reclaim.proofs.picked.Goals as goal
 
 pub listed-all-requires : goal.listed-all-requires

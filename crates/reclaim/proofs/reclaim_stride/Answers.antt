@@ -4,7 +4,6 @@ use native.Mathlib.Nat.{add-sub_cancel_left}
 use Rattle.reclaim.proofs.Room.{block_ends, block_copying}
 use Rattle.reclaim.proofs.Picking.{picked_block}
 use Rattle.reclaim.proofs.Carried.{block_frees, block_copies}
-use borrow.Author.Rules.{rules}
 use Rattle.reclaim.proofs.reclaim_stride.Goals as goal
 
 pub free_stride-requires : goal.free_stride-requires

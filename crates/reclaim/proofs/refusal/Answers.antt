@@ -6,7 +6,6 @@ use Rattle.arrays.specs.Ranges.{geometry_in}
 use Rattle.checkpoint.specs.Found.{found_of}
 use Rattle.reclaim.specs.Copies.{looked}
 use Rattle.reclaim.proofs.Carried.{none_gains}
-use borrow.Author.Rules.{rules}
 use Rattle.reclaim.proofs.refusal.Goals as goal
 
 pub picked-found-requires : goal.picked-found-requires

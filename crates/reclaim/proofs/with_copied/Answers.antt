@@ -1,6 +1,5 @@
 -- `reclaim::with_copied` meets its contract: from what its calls ensure; on one plane the last page leaves no trace. Assumes nothing.
 use Rattle.change.proofs.Carrying.{last_one}
-use borrow.Author.Rules.{rules}
 use Rattle.reclaim.proofs.with_copied.Goals as goal
 
 pub returns-then-s-ne2 : goal.returns-then-s-ne2

@@ -1,9 +1,7 @@
 -- `reclaim::with_listed` meets its contract. The loop's invariant: the table, with the blocks from index `i` on in it, is the whole. Assumes nothing.
-use mathlib.Core.Path.{◌≡◌, refl, sym, ◌∙◌}
-use Prim.Native.Nat.{◌-◌, ◌≤◌}
+use mathlib.Core.Path.{refl, sym, ◌∙◌}
 use native.Mathlib.Omega.{arith}
-use lib.ListN.{length, drop, length-set}
-use Rattle.reclaim.specs.Copies.{with_listed}
+use lib.ListN.{length-set}
 use Rattle.reclaim.proofs.Picking.{listed_turn, listed_end}
 use borrow.Author.Rules.{rules}
 use Rattle.reclaim.proofs.with_listed.Goals as goal

@@ -1,11 +1,8 @@
 -- `reclaim::with_listed` meets its contract. The loop's invariant: the table, with the blocks from index `i` on in it, is the whole. Assumes nothing.
-use mathlib.Core.Path.{◌≡◌, refl, sym, ◌∙◌}
+use mathlib.Core.Path.{◌≡◌}
 use Prim.Native.Nat.{◌-◌, ◌≤◌}
-use native.Mathlib.Omega.{arith}
-use lib.ListN.{length, drop, length-set}
+use lib.ListN.{length, drop}
 use Rattle.reclaim.specs.Copies.{with_listed}
-use Rattle.reclaim.proofs.Picking.{listed_turn, listed_end}
-use borrow.Author.Rules.{rules}
 use Rattle.reclaim.proofs.with_listed.Given as goal
 
 abbrev pub invariant-loop-i : goal.invariant-loop-i

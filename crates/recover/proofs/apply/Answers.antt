@@ -1,6 +1,5 @@
 -- `recover::apply` meets its contract: the zone lists are read, and what they list is scanned. Assumes nothing.
 use native.Mathlib.Omega.{arith}
-use borrow.Author.Rules.{rules}
 use borrow.Author.Tests.{not-true, not-false}
 use Rattle.blocks.proofs.Kept.{kept_list}
 use Rattle.recover.proofs.Entries.{first_small, zone_fits, zone_long}

@@ -5,7 +5,6 @@ use native.Mathlib.Omega.{arith}
 use lib.ListN.{length}
 use lib.Seq.{length-take-le}
 use borrow.Author.Rules.{rules}
-use borrow.Author.Tests.{not-true, not-false}
 use Rattle.recover.proofs.Entries.{maps_most, maps_fit, zone_fits}
 use Rattle.recover.proofs.Plans.{entries_refused, zones_refused, loaded}
 use Rattle.recover.proofs.recover_from.Goals as goal

@@ -1,7 +1,6 @@
 -- `recover::recovered` is `recovered_of`: the places are free ones. Assumes nothing.
 use native.Mathlib.Omega.{arith}
 use native.Mathlib.Nat.{div-le_self}
-use borrow.Author.Rules.{rules}
 use Rattle.arrays.specs.Ranges.{geometry_in}
 use Rattle.recover.specs.Recovering.{recovered_of}
 use Rattle.recover.proofs.recovered.Goals as goal

@@ -5,7 +5,6 @@ use native.Mathlib.Omega.{arith}
 use lib.ListN.{length, take, replicate, length-replicate}
 use lib.Seq.{length-take-le}
 use Rattle.recover.proofs.Plans.{blocks_in}
-use borrow.Author.Rules.{rules}
 use Rattle.recover.proofs.scan_blocks.Goals as goal
 
 -- the first k of n zeros

@@ -3,11 +3,9 @@ use mathlib.Core.Path.{sym}
 use native.Mathlib.Omega.{arith}
 use lib.ListN.{length}
 use lib.Seq.{length-take-le}
-use borrow.Author.Tests.{not-true, not-false}
 use Rattle.model.specs.Zones.{scan_in}
 use Rattle.scan.proofs.Loops.{listed_pages}
 use Rattle.recover.proofs.Plans.{blocks_in, scan_met, changes_few, redo_ready, top_met, scan_refused, scan_passed}
-use borrow.Author.Rules.{rules}
 use Rattle.recover.proofs.scan_pages.Goals as goal
 
 pub list-requires : goal.list-requires

@@ -1,6 +1,5 @@
 -- `recovery::enter` meets its contract, return by return: what it takes from the page are the fields of its entry. Assumes nothing.
 use mathlib.Core.Path.{sym, ap, ◌∙◌}
-use Prim.Native.Nat.{◌-◌}
 use native.Mathlib.Omega.{arith}
 use lib.ListN.{get_or}
 use lib.Dec.{eqb}
@@ -11,7 +10,6 @@ use Rattle.scan.specs.Taken.{entry_in}
 use Rattle.recovery.specs.Redo.{best}
 use Rattle.recovery.proofs.Fields.{field_leads, field_lpn}
 use Rattle.recovery.proofs.Entering.{enter_in, enter_out}
-use borrow.Author.Rules.{rules}
 use Rattle.recovery.proofs.enter.Goals as goal
 
 pub bounds-bests-l : goal.bounds-bests-l

@@ -1,6 +1,5 @@
 -- `recovery::enter_all` meets its contract. Assumes nothing.
 use mathlib.Core.Path.{sym, ap, ◌∙◌}
-use Prim.Native.Nat.{◌-◌}
 use native.Mathlib.Omega.{arith}
 use lib.ListN.{length}
 use lib.Seq.{length-take-le}
@@ -8,7 +7,6 @@ use Rattle.scan.specs.Taken.{listed}
 use Rattle.scan.proofs.Loops.{listed_length}
 use Rattle.scan.proofs.Picked.{length_notes}
 use Rattle.recovery.proofs.Redoing.{ready_changes, ready_lone, lone_enter}
-use borrow.Author.Rules.{rules}
 use Rattle.recovery.proofs.enter_all.Goals as goal
 
 pub enter_runs-requires : goal.enter_runs-requires

@@ -1,10 +1,8 @@
 -- `recovery::enter_pages` meets its contract. The loop's invariant: the first i pages are entered. Assumes nothing.
-use Prim.Native.Nat.{◌-◌}
 use native.Mathlib.Omega.{arith}
-use lib.ListN.{length}
 use Rattle.sorting.proofs.Laws.{page_fits}
 use Rattle.recovery.specs.Redo.{rank_by}
-use Rattle.recovery.proofs.Entering.{Entered, entered_none, entered_next, entered_more, entered_all}
+use Rattle.recovery.proofs.Entering.{entered_none, entered_next, entered_more, entered_all}
 use Rattle.recovery.proofs.enter_pages.Goals as goal
 
 pub loop-i-init : goal.loop-i-init

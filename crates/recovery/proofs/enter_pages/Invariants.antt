@@ -1,10 +1,8 @@
 -- `recovery::enter_pages` meets its contract. The loop's invariant: the first i pages are entered. Assumes nothing.
 use Prim.Native.Nat.{◌-◌}
-use native.Mathlib.Omega.{arith}
 use lib.ListN.{length}
-use Rattle.sorting.proofs.Laws.{page_fits}
 use Rattle.recovery.specs.Redo.{rank_by}
-use Rattle.recovery.proofs.Entering.{Entered, entered_none, entered_next, entered_more, entered_all}
+use Rattle.recovery.proofs.Entering.{Entered}
 use Rattle.recovery.proofs.enter_pages.Given as goal
 
 abbrev pub invariant-loop-i : goal.invariant-loop-i

@@ -1,16 +1,16 @@
 -- `recovery::enter_runs` meets its contract. The loop's invariant: the runs before page i are entered. Assumes nothing.
-use mathlib.Core.Path.{◌≡◌, refl, ap, ◌∙◌}
-use Prim.Native.Nat.{ℕ, ◌-◌, ◌≤◌, ◌<◌}
+use mathlib.Core.Path.{refl, ap, ◌∙◌}
+use Prim.Native.Nat.{ℕ, ◌-◌, ◌<◌}
 use native.Mathlib.Omega.{arith}
 use mathlib.Core.List.{List}
-use lib.ListN.{length, take}
+use lib.ListN.{length}
 use lib.Seq.{take_all}
 use Rattle.ranks.specs.Pass.{best_of}
 use Rattle.ranks.specs.Best.{rank_of}
 use Rattle.scan.specs.Taken.{entries_in}
 use Rattle.recovery.specs.Redo.{best}
 use Rattle.recovery.proofs.Entering.{part_enterable}
-use Rattle.recovery.proofs.Running.{Bound, run_step, run_bound}
+use Rattle.recovery.proofs.Running.{run_step, run_bound}
 use Rattle.recovery.proofs.enter_runs.Goals as goal
 
 pub loop-i-init : goal.loop-i-init

@@ -1,16 +1,12 @@
 -- `recovery::enter_runs` meets its contract. The loop's invariant: the runs before page i are entered. Assumes nothing.
-use mathlib.Core.Path.{◌≡◌, refl, ap, ◌∙◌}
-use Prim.Native.Nat.{ℕ, ◌-◌, ◌≤◌, ◌<◌}
-use native.Mathlib.Omega.{arith}
-use mathlib.Core.List.{List}
+use mathlib.Core.Path.{◌≡◌}
+use Prim.Native.Nat.{◌-◌, ◌≤◌}
 use lib.ListN.{length, take}
-use lib.Seq.{take_all}
 use Rattle.ranks.specs.Pass.{best_of}
 use Rattle.ranks.specs.Best.{rank_of}
 use Rattle.scan.specs.Taken.{entries_in}
 use Rattle.recovery.specs.Redo.{best}
-use Rattle.recovery.proofs.Entering.{part_enterable}
-use Rattle.recovery.proofs.Running.{Bound, run_step, run_bound}
+use Rattle.recovery.proofs.Running.{Bound}
 use Rattle.recovery.proofs.enter_runs.Given as goal
 
 abbrev pub invariant-loop-i : goal.invariant-loop-i

@@ -3,7 +3,6 @@ use mathlib.Core.Path.{ap, ◌∙◌}
 use Rattle.model.specs.Bytes.{le32}
 use Rattle.model.specs.Page.{page_at}
 use Rattle.sorting.specs.Sort.{key_at}
-use borrow.Author.Rules.{rules}
 use Rattle.recovery.proofs.id_of.Goals as goal
 
 pub returns : goal.returns

@@ -4,7 +4,6 @@ use Prim.Native.Nat.{◌+◌}
 use native.Mathlib.Omega.{arith}
 use Rattle.model.specs.Zones.{scan_in}
 use Rattle.recovery.proofs.Redoing.{redo_none, first_length, redo_all}
-use borrow.Author.Rules.{rules}
 use Rattle.recovery.proofs.redo.Goals as goal
 
 pub returns-then-highest-floor : goal.returns-then-highest-floor

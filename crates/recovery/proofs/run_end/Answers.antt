@@ -1,9 +1,6 @@
 -- `recovery::run_end` meets its contract. The loop's invariant: the pages from i to before j have the identifier. Assumes nothing.
 use mathlib.Core.Path.{◌≡◌, sym, ◌∙◌}
-use Prim.Native.Nat.{ℕ, ◌-◌, ◌≤◌, ◌<◌}
 use native.Mathlib.Omega.{arith}
-use lib.ListN.{length, get_or}
-use Rattle.sorting.specs.Sort.{key_at}
 use Rattle.sorting.proofs.Laws.{page_fits}
 use Rattle.recovery.proofs.Running.{run_ends, same_more}
 use Rattle.recovery.proofs.run_end.Goals as goal

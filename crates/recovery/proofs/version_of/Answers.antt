@@ -3,7 +3,6 @@ use mathlib.Core.Path.{ap, ◌∙◌}
 use Rattle.model.specs.Bytes.{le32}
 use Rattle.model.specs.Page.{page_at}
 use Rattle.recovery.proofs.Fields.{field_ver}
-use borrow.Author.Rules.{rules}
 use Rattle.recovery.proofs.version_of.Goals as goal
 
 pub returns-in-Own : goal.returns-in-Own

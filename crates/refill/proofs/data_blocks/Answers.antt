@@ -1,8 +1,7 @@
 -- `refill::data_blocks` meets its contract. The loop's invariant: the first `i` data blocks stand in the list, zeros behind them. Assumes nothing.
 use mathlib.Core.Path.{◌≡◌, refl}
-use Prim.Native.Nat.{◌-◌, ◌≤◌}
+use Prim.Native.Nat.{◌-◌}
 use native.Mathlib.Omega.{arith}
-use Rattle.model.specs.Lists.{up_from, pad_to}
 use Rattle.arrays.specs.Ranges.{geometry_in}
 use Rattle.refill.proofs.Free.{fill_none, fill_more, filled}
 use Rattle.refill.proofs.data_blocks.Goals as goal

@@ -1,6 +1,5 @@
 -- `refill::format_zones` meets its contract: the refill of no available and all free blocks, as zones. Assumes nothing.
 use native.Mathlib.Omega.{arith}
-use borrow.Author.Rules.{rules}
 use Rattle.model.specs.Zones.{format_zones}
 use Rattle.blocks.proofs.Kept.{kept_count}
 use Rattle.refill.proofs.Taking.{kept_lists, kept_taken, refilled_available, refilled_free, refilled_zones, all_free}

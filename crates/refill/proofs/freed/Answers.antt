@@ -2,7 +2,6 @@
 use mathlib.Core.Path.{ap}
 use native.Mathlib.Omega.{arith}
 use lib.ListN.{length, length-take}
-use borrow.Author.Rules.{rules}
 use Rattle.blocks.specs.Blocks.{list_of}
 use Rattle.blocks.proofs.Kept.{kept_list, kept_count}
 use Rattle.refill.proofs.Free.{length_insert, freed_is}

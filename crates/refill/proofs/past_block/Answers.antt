@@ -1,6 +1,5 @@
 -- `refill::past_block` meets its contract: a device has no block past 128. Assumes nothing.
 use native.Mathlib.Omega.{arith}
-use borrow.Author.Rules.{rules}
 use borrow.Author.Tests.{lt-ltb, le-ltb}
 use Rattle.model.specs.Zones.{past_block}
 use Rattle.arrays.specs.Ranges.{geometry_in}

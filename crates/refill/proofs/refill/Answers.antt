@@ -1,5 +1,4 @@
 -- `refill::refill` meets its contract: three steps, each of which keeps the lists in range. Assumes nothing.
-use borrow.Author.Rules.{rules}
 use Rattle.refill.proofs.Taking.{kept_may, three}
 use Rattle.refill.proofs.refill.Goals as goal
 

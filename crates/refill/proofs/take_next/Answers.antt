@@ -1,6 +1,5 @@
 -- `refill::take_next` meets its contract: each return by the test that led to it. Assumes nothing.
 use mathlib.Core.Path.{◌∙◌}
-use borrow.Author.Rules.{rules}
 use Rattle.refill.proofs.Taking.{may_not, may_none, may}
 use Rattle.refill.proofs.take_next.Goals as goal
 

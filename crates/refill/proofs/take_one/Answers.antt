@@ -1,6 +1,5 @@
 -- `refill::take_one` meets its contract: the block at the index goes from one list to the other, and the pointer past it. Assumes nothing.
 use native.Mathlib.Omega.{arith}
-use borrow.Author.Rules.{rules}
 use Rattle.refill.proofs.Taking.{free_few, free_block, index_few, took}
 use Rattle.refill.proofs.take_one.Goals as goal
 

@@ -3,7 +3,6 @@ use mathlib.Core.Path.{refl, sym}
 use native.Mathlib.Omega.{arith}
 use lib.Seq.{length-take-le}
 use Rattle.reporting.proofs.Reports.{array_long, array_wide, array_recovered}
-use borrow.Author.Rules.{rules}
 use Rattle.reporting.proofs.array_report.Goals as goal
 
 pub returns-then-array-gt65536 : goal.returns-then-array-gt65536

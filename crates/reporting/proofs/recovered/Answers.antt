@@ -3,7 +3,6 @@ use mathlib.Core.Path.{refl}
 use native.Mathlib.Omega.{arith}
 use Rattle.reporting.specs.Report.{empty_hold}
 use Rattle.reporting.proofs.Reports.{refusal_told, told_fits, recovery_told}
-use borrow.Author.Rules.{rules}
 use Rattle.reporting.proofs.recovered.Goals as goal
 
 pub returns-then-answer-ne0 : goal.returns-then-answer-ne0

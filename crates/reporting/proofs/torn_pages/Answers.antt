@@ -1,6 +1,5 @@
 -- `reporting::torn_pages` meets its contract: the blocks in scan order, which lie in the array, are looked through. Assumes nothing.
 use mathlib.Core.Path.{ap, ◌∙◌}
-use borrow.Author.Rules.{rules}
 use Rattle.model.specs.Zones.{torn_in, torn_of}
 use Rattle.blocks.proofs.Kept.{kept_list}
 use Rattle.recover.proofs.Lists.{kept_inside, kept_length}

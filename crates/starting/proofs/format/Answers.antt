@@ -7,7 +7,6 @@ use Rattle.arrays.specs.Tests.{and_left, and_right}
 use Rattle.arrays.specs.Order.{Unless}
 use Rattle.format.proofs.Frames.{formattable}
 use Rattle.frame.proofs.Outcomes.{refusal_known, refuses, passes, carries}
-use borrow.Author.Rules.{rules}
 use Rattle.starting.proofs.format.Goals as goal
 
 pub refused-requires : goal.refused-requires

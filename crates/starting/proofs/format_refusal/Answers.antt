@@ -1,7 +1,6 @@
 -- `starting::format_refusal` meets its contract: geometry and lengths, then its own work under way. Assumes nothing.
 use Rattle.model.specs.World.{World}
 use Rattle.starting.proofs.Starts.{format_not_lent, format_sized, format_bad_work, format_passes}
-use borrow.Author.Rules.{rules}
 use Rattle.starting.proofs.format_refusal.Goals as goal
 
 pub returns-then-not-lent_ok : goal.returns-then-not-lent_ok

@@ -7,7 +7,6 @@ use Rattle.checkpoint.specs.Found.{found_of}
 use Rattle.recover.specs.Recovering.{from_plan}
 use Rattle.frame.proofs.Outcomes.{refused_as, carried_as}
 use Rattle.starting.proofs.Starts.{recover_not_lent, searchable, recover_none, recover_at, standing}
-use borrow.Author.Rules.{rules}
 use Rattle.starting.proofs.recover.Goals as goal
 
 pub refused-requires : goal.refused-requires

@@ -1,7 +1,6 @@
 -- `strides::checkpoint_stride` meets its contract: by the cases of the work. Assumes nothing.
 use Rattle.strides.proofs.Within.{work_next}
 use Rattle.strides.proofs.Carried.{stride_first, stride_page, stride_format, stride_reclaim}
-use borrow.Author.Rules.{rules}
 use Rattle.strides.proofs.checkpoint_stride.Goals as goal
 
 pub page_stride-requires : goal.page_stride-requires

@@ -2,7 +2,6 @@
 use native.Mathlib.Omega.{arith}
 use Rattle.strides.proofs.Within.{block_inside, maps_inside, first_next}
 use Rattle.strides.proofs.Carried.{first_others, first_pages}
-use borrow.Author.Rules.{rules}
 use Rattle.strides.proofs.first_stride.Goals as goal
 
 pub used_in-used-requires : goal.used_in-used-requires

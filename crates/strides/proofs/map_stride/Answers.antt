@@ -2,7 +2,7 @@
 use native.Mathlib.Omega.{arith}
 use Rattle.strides.proofs.Within.{page_inside}
 use Rattle.strides.proofs.Carried.{map_strode}
-use mathlib.Core.Path.{refl, sym}
+use mathlib.Core.Path.{refl}
 use borrow.Author.Rules.{rules}
 use Rattle.strides.proofs.map_stride.Goals as goal
 

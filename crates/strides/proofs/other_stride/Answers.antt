@@ -3,7 +3,6 @@ use Prim.Native.Nat.{◌-◌}
 use native.Mathlib.Omega.{arith}
 use Rattle.strides.proofs.Within.{block_inside}
 use Rattle.strides.proofs.Carried.{other_strode}
-use borrow.Author.Rules.{rules}
 use Rattle.strides.proofs.other_stride.Goals as goal
 
 pub erase_block-requires : goal.erase_block-requires

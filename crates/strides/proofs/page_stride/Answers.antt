@@ -1,7 +1,6 @@
 -- `strides::page_stride` meets its contract: by the stride that it goes on with. Assumes nothing.
 use native.Mathlib.Omega.{arith}
 use Rattle.strides.proofs.Carried.{page_maps, page_zones}
-use borrow.Author.Rules.{rules}
 use Rattle.strides.proofs.page_stride.Goals as goal
 
 pub returns-then-i-map_pages : goal.returns-then-i-map_pages

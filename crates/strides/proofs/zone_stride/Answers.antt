@@ -3,7 +3,7 @@ use native.Mathlib.Omega.{arith}
 use Rattle.strides.proofs.Within.{page_inside, fit_ready}
 use Rattle.strides.proofs.Carried.{zone_strode}
 use Rattle.strides.proofs.Slides.{slide_counted}
-use mathlib.Core.Path.{refl, sym}
+use mathlib.Core.Path.{refl}
 use borrow.Author.Rules.{rules}
 use Rattle.strides.proofs.zone_stride.Goals as goal
 

@@ -1,6 +1,5 @@
 -- `table::add7` meets its contract: four additions, and the ones of seven words (`seven`). Assumes nothing.
 use native.Mathlib.Omega.{arith}
-use borrow.Author.Rules.{rules}
 use Rattle.table.proofs.Kept.{seven}
 use Rattle.table.proofs.add7.Goals as goal
 

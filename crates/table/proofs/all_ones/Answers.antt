@@ -1,6 +1,5 @@
 -- `table::all_ones` meets its contract: what was added is worth its ones. Assumes nothing.
 use native.Mathlib.Omega.{arith}
-use borrow.Author.Rules.{rules}
 use Rattle.table.proofs.Sums.{none}
 use Rattle.table.proofs.all_ones.Goals as goal
 

@@ -1,6 +1,5 @@
 -- `table::classify` meets its contract: an erased page is, and `page::classed` takes any other. Assumes nothing.
 use mathlib.Core.Path.{sym, ◌∙◌}
-use borrow.Author.Rules.{rules}
 use Rattle.model.specs.Page.{class_of}
 use Rattle.table.proofs.classify.Goals as goal
 

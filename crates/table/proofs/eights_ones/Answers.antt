@@ -1,6 +1,5 @@
 -- `table::eights_ones` meets its contract: the eighth word is one more (`ones_more`), and what was added is worth its ones. Assumes nothing.
 use native.Mathlib.Omega.{arith}
-use borrow.Author.Rules.{rules}
 use Rattle.table.proofs.Sums.{none}
 use Rattle.table.proofs.Kept.{ones_more}
 use Rattle.table.proofs.eights_ones.Goals as goal

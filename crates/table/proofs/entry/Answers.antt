@@ -1,7 +1,6 @@
 -- `table::entry` meets its contract: the entry at a byte's value is its count (`count_at`). Assumes nothing.
 use Prim.Native.Nat.{◌%◌}
 use native.Mathlib.Omega.{arith}
-use borrow.Author.Rules.{rules}
 use Rattle.table.proofs.Entries.{entry_of}
 use Rattle.table.proofs.entry.Goals as goal
 

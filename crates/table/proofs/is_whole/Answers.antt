@@ -1,6 +1,5 @@
 -- `table::is_whole` meets its contract: an erased page is not, and `page::classed` takes any other. Assumes nothing.
 use mathlib.Core.Path.{sym, ap, ◌∙◌}
-use borrow.Author.Rules.{rules}
 use Rattle.model.specs.Page.{class_of, is_whole}
 use Rattle.table.proofs.is_whole.Goals as goal
 

@@ -1,5 +1,4 @@
 -- `table::look` meets its contract: from what its calls ensure. Assumes nothing.
-use borrow.Author.Rules.{rules}
 use Rattle.table.specs.Looking.{look_of}
 use Rattle.table.proofs.look.Goals as goal
 

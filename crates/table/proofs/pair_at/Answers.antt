@@ -4,7 +4,6 @@ use Prim.Native.Nat.{ℕ, ◌<◌}
 use native.Mathlib.Omega.{arith}
 use lib.ListN.{get_or}
 use lib.Count.{ones}
-use borrow.Author.Rules.{rules}
 use Rattle.table.proofs.Entries.{pair_more}
 use Rattle.table.proofs.pair_at.Goals as goal
 

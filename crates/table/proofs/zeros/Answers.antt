@@ -1,13 +1,12 @@
 -- `table::zeros` meets its contract. The loop's invariant: what was added is worth the ones of the spare area before Zeros and of the first 128 * q bytes of the
 -- data (`spare_first`); after the last turn they and the zero bits are all (`all_added`). Assumes nothing.
 use mathlib.Core.Path.{◌≡◌, refl, ap, ◌∙◌}
-use Prim.Native.Nat.{◌+◌, ◌-◌, ◌*◌, ◌≤◌}
+use Prim.Native.Nat.{◌+◌, ◌*◌}
 use native.Mathlib.Omega.{arith}
-use lib.ListN.{length, take, set, length-set}
-use borrow.Author.Rules.{rules}
+use lib.ListN.{take, set, length-set}
 use Rattle.model.specs.Bytes.{zero_bits}
 use Rattle.page.specs.Counting.{spare_first}
-use Rattle.table.specs.Sums.{ones_of, ones_in}
+use Rattle.table.specs.Sums.{ones_in}
 use Rattle.table.proofs.Sums.{none}
 use Rattle.table.proofs.Kept.{two_stored, all_added}
 use Rattle.table.proofs.zeros.Goals as goal

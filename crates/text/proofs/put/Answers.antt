@@ -1,6 +1,5 @@
 -- `text::put` meets its contract: by what the copy leaves. Assumes nothing.
 use Rattle.text.proofs.Putting.{put_copied}
-use borrow.Author.Rules.{rules}
 use Rattle.text.proofs.put.Goals as goal
 
 pub returns : goal.returns

@@ -1,11 +1,6 @@
 -- `text::put_entries` meets its contract. The loop's invariant: the entries put and those that are left are all; the measure is those that are left. Assumes nothing.
-use mathlib.Core.Path.{◌≡◌, refl, ◌∙◌}
-use mathlib.Core.List.{◌++◌}
-use Prim.Native.Nat.{◌+◌, ◌-◌, ◌*◌, ◌≤◌}
+use mathlib.Core.Path.{refl, ◌∙◌}
 use native.Mathlib.Omega.{arith}
-use lib.ListN.{length, take, drop}
-use borrow.Author.Rules.{rules}
-use Rattle.text.specs.Text.{listed}
 use Rattle.text.proofs.Lists.{items_again, items_done}
 use Rattle.text.proofs.put_entries.Goals as goal
 

@@ -2,7 +2,6 @@
 use native.Mathlib.Omega.{arith}
 use borrow.Author.Tests.{eq-eqb, ne_eqb}
 use Rattle.text.proofs.Putting.{puts, put_within}
-use borrow.Author.Rules.{rules}
 use Rattle.text.proofs.put_item.Goals as goal
 
 pub returns-then-before-eq0 : goal.returns-then-before-eq0

@@ -1,12 +1,11 @@
 -- `text::put_list` meets its contract. The loop's invariant: the numbers put and those that are left are all; the measure is those that are left. Assumes nothing.
-use mathlib.Core.Path.{◌≡◌, refl, sym, ap, ◌∙◌}
+use mathlib.Core.Path.{refl, sym, ap, ◌∙◌}
 use mathlib.Core.List.{◌++◌}
-use Prim.Native.Nat.{ℕ, ◌+◌, ◌-◌, ◌*◌, ◌≤◌}
+use Prim.Native.Nat.{ℕ}
 use native.Mathlib.Omega.{arith}
-use lib.ListN.{length, take, drop, length-take}
+use lib.ListN.{take, length-take}
 use lib.Seq.{get_or-take}
-use borrow.Author.Rules.{rules}
-use Rattle.text.specs.Text.{comma, decimal, listed}
+use Rattle.text.specs.Text.{comma, decimal}
 use Rattle.text.proofs.Putting.{put_is}
 use Rattle.text.proofs.Lists.{items_again, items_done}
 use Rattle.text.proofs.put_list.Goals as goal

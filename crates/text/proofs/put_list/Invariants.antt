@@ -1,14 +1,9 @@
 -- `text::put_list` meets its contract. The loop's invariant: the numbers put and those that are left are all; the measure is those that are left. Assumes nothing.
-use mathlib.Core.Path.{◌≡◌, refl, sym, ap, ◌∙◌}
+use mathlib.Core.Path.{◌≡◌}
 use mathlib.Core.List.{◌++◌}
-use Prim.Native.Nat.{ℕ, ◌+◌, ◌-◌, ◌*◌, ◌≤◌}
-use native.Mathlib.Omega.{arith}
-use lib.ListN.{length, take, drop, length-take}
-use lib.Seq.{get_or-take}
-use borrow.Author.Rules.{rules}
-use Rattle.text.specs.Text.{comma, decimal, listed}
-use Rattle.text.proofs.Putting.{put_is}
-use Rattle.text.proofs.Lists.{items_again, items_done}
+use Prim.Native.Nat.{◌+◌, ◌-◌, ◌*◌, ◌≤◌}
+use lib.ListN.{length, take, drop}
+use Rattle.text.specs.Text.{listed}
 use Rattle.text.proofs.put_list.Given as goal
 
 abbrev pub invariant-loop-i : goal.invariant-loop-i

@@ -1,7 +1,6 @@
 -- `writing::add_refusal` meets its contract: the logical page, then what refuses a page more. Assumes that array and zone lists agree.
 use borrow.Author.Tests.{le-leb, lt-leb}
 use Rattle.model.specs.Order.{first_number}
-use borrow.Author.Rules.{rules}
 use Rattle.writing.proofs.add_refusal.Goals as goal
 
 pub returns-then-lpn-s : goal.returns-then-lpn-s

@@ -9,7 +9,6 @@ use Rattle.model.specs.Commands.{carried, commit}
 use Rattle.arrays.specs.Order.{Unless}
 use Rattle.frame.proofs.Outcomes.{refusal_known, refuses, passes, carries}
 use Rattle.writing.proofs.Clean.{place_low, place_taking}
-use borrow.Author.Rules.{rules}
 use Rattle.writing.proofs.commit.Goals as goal
 
 pub refused-requires : goal.refused-requires

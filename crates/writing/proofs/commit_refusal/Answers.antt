@@ -5,7 +5,6 @@ use Rattle.model.specs.Order.{first_number}
 use Rattle.frame.proofs.Gates.{gate_first, gate_passed}
 use borrow.Author.Tests.{le-leb, lt-leb}
 use Rattle.change.proofs.Framed.{frame_in}
-use borrow.Author.Rules.{rules}
 use Rattle.writing.proofs.commit_refusal.Goals as goal
 
 pub returns-then-n-ne0 : goal.returns-then-n-ne0

@@ -5,7 +5,6 @@ use Rattle.model.specs.Order.{first_number, leave_out}
 use Rattle.frame.proofs.Gates.{gate_first, gate_passed}
 use Rattle.change.proofs.Framed.{frame_in}
 use Rattle.model.specs.Lists.{those}
-use borrow.Author.Rules.{rules}
 use Rattle.writing.proofs.drop_refusal.Goals as goal
 
 pub returns-then-n-ne0 : goal.returns-then-n-ne0

@@ -1,7 +1,6 @@
 -- `writing::page_refusal` meets its contract: the place, its pages, then the room for the page that it holds. Assumes that array and zone lists agree.
 use borrow.Author.Tests.{le-leb, lt-leb}
 use Rattle.model.specs.Order.{first_number}
-use borrow.Author.Rules.{rules}
 use Rattle.writing.proofs.page_refusal.Goals as goal
 
 pub returns-then-i-ge-PLACES : goal.returns-then-i-ge-PLACES

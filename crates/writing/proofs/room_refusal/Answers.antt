@@ -1,7 +1,5 @@
 -- `writing::room_refusal` meets its contract: whether a page is programmed, then whether the zone is short. Assumes that array and zone lists agree.
-use borrow.Author.Tests.{not-true, not-false}
 use Rattle.model.specs.Order.{first_number}
-use borrow.Author.Rules.{rules}
 use Rattle.writing.proofs.room_refusal.Goals as goal
 
 pub returns-then-not-programs : goal.returns-then-not-programs

@@ -1,8 +1,6 @@
 -- `writing::version_refusal` meets its contract: whether a page is programmed, its version, then the room. Assumes that array and zone lists agree.
-use borrow.Author.Tests.{not-true, not-false}
 use Rattle.frame.proofs.Outcomes.{number_spent, number_left}
 use Rattle.model.specs.Order.{first_number}
-use borrow.Author.Rules.{rules}
 use Rattle.writing.proofs.version_refusal.Goals as goal
 
 pub returns-then-not-programs : goal.returns-then-not-programs

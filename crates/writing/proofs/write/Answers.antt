@@ -5,7 +5,6 @@ use Rattle.model.specs.World.{World}
 use Rattle.arrays.specs.Order.{Unless}
 use Rattle.frame.proofs.Outcomes.{refusal_known, refuses, passes, carries}
 use Rattle.writing.proofs.Clean.{data_long, page_writing}
-use borrow.Author.Rules.{rules}
 use Rattle.writing.proofs.write.Goals as goal
 
 pub refused-requires : goal.refused-requires

@@ -1,8 +1,6 @@
 -- `zones::block_has_id` meets its contract. The loop's invariant: no whole page of the block before the `j`-th has the identifier. Assumes nothing.
-use mathlib.Core.Path.{◌≡◌, sym, ◌∙◌}
-use Prim.Native.Nat.{◌+◌, ◌-◌, ◌≤◌}
+use mathlib.Core.Path.{sym, ◌∙◌}
 use native.Mathlib.Omega.{arith}
-use Rattle.model.specs.Zones.{whole_from, on_pages}
 use Rattle.zones.proofs.Pages.{ids_start, ids_hit, ids_more, ids_end}
 use Rattle.zones.proofs.block_has_id.Goals as goal
 

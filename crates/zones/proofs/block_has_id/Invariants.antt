@@ -1,9 +1,7 @@
 -- `zones::block_has_id` meets its contract. The loop's invariant: no whole page of the block before the `j`-th has the identifier. Assumes nothing.
-use mathlib.Core.Path.{◌≡◌, sym, ◌∙◌}
+use mathlib.Core.Path.{◌≡◌}
 use Prim.Native.Nat.{◌+◌, ◌-◌, ◌≤◌}
-use native.Mathlib.Omega.{arith}
 use Rattle.model.specs.Zones.{whole_from, on_pages}
-use Rattle.zones.proofs.Pages.{ids_start, ids_hit, ids_more, ids_end}
 use Rattle.zones.proofs.block_has_id.Given as goal
 
 abbrev pub invariant-loop-j : goal.invariant-loop-j

@@ -1,11 +1,8 @@
 -- `zones::block_torn` meets its contract. The loop's invariant: the torn pages counted with those of the rest are all. Assumes nothing.
-use mathlib.Core.Path.{◌≡◌, sym, ◌∙◌}
-use mathlib.Core.Logic.{⊎_elim}
-use Prim.Native.Nat.{◌+◌, ◌-◌, ◌≤◌}
+use mathlib.Core.Path.{sym, ◌∙◌}
+use Prim.Native.Nat.{◌≤◌}
 use native.Mathlib.Omega.{arith}
-use Rattle.model.specs.Lists.{count, up_from}
-use Rattle.model.specs.Page.{torn_at}
-use Rattle.zones.proofs.Torn.{rest, rest_start, rest_torn, rest_other, rest_end}
+use Rattle.zones.proofs.Torn.{rest_start, rest_torn, rest_other, rest_end}
 use Rattle.zones.proofs.block_torn.Goals as goal
 use Rattle.zones.proofs.block_torn.Goals.{then-is_torn, else-is_torn}
 
@@ -41,8 +38,8 @@ loop-j-preserved c =
     let n = c.args.pages in
     let e = c.is_torn.ensures in
     elim c.if-is_torn.branch [
-      then-is_torn w ↦ (omega arith, (omega arith, (let r = rest_torn xs c.first_page-first.result n c.loop-j.j c.loop-j-test.true (sym e ∙ w.if-is_torn.true) in omega (arith, c.loop-j.invariant.1.1, w.torn-is))))
-    | else-is_torn w ↦ (omega arith, (omega arith, (let r = rest_other xs c.first_page-first.result n c.loop-j.j c.loop-j-test.true (sym e ∙ w.if-is_torn.false) in omega (arith, c.loop-j.invariant.1.1, w.torn-is))))
+      | then-is_torn w ↦ (omega arith, (omega arith, (let r = rest_torn xs c.first_page-first.result n c.loop-j.j c.loop-j-test.true (sym e ∙ w.if-is_torn.true) in omega (arith, c.loop-j.invariant.1.1, w.torn-is))))
+      | else-is_torn w ↦ (omega arith, (omega arith, (let r = rest_other xs c.first_page-first.result n c.loop-j.j c.loop-j-test.true (sym e ∙ w.if-is_torn.false) in omega (arith, c.loop-j.invariant.1.1, w.torn-is))))
     ]
 
 pub returns : goal.returns

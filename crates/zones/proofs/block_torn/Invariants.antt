@@ -1,11 +1,9 @@
 -- `zones::block_torn` meets its contract. The loop's invariant: the torn pages counted with those of the rest are all. Assumes nothing.
-use mathlib.Core.Path.{◌≡◌, sym, ◌∙◌}
-use mathlib.Core.Logic.{⊎_elim}
+use mathlib.Core.Path.{◌≡◌}
 use Prim.Native.Nat.{◌+◌, ◌-◌, ◌≤◌}
-use native.Mathlib.Omega.{arith}
 use Rattle.model.specs.Lists.{count, up_from}
 use Rattle.model.specs.Page.{torn_at}
-use Rattle.zones.proofs.Torn.{rest, rest_start, rest_torn, rest_other, rest_end}
+use Rattle.zones.proofs.Torn.{rest}
 use Rattle.zones.proofs.block_torn.Given as goal
 
 abbrev pub invariant-loop-j : goal.invariant-loop-j

@@ -1,6 +1,5 @@
 -- `zones::first_page` meets its contract: what it requires. Assumes nothing.
 use native.Mathlib.Omega.{arith}
-use borrow.Author.Rules.{rules}
 use Rattle.zones.proofs.first_page.Goals as goal
 
 pub overflow_cast-result : goal.overflow_cast-result

@@ -1,7 +1,6 @@
 -- `zones::has_id` meets its contract: a page with another identifier is told apart before it is classed. Assumes nothing.
 use mathlib.Core.Path.{◌∙◌}
 use Rattle.zones.proofs.Pages.{other_page, same_page}
-use borrow.Author.Rules.{rules}
 use Rattle.zones.proofs.has_id.Goals as goal
 
 pub returns-then-s-id : goal.returns-then-s-id

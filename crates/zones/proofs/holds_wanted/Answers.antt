@@ -1,10 +1,7 @@
 -- `zones::holds_wanted` meets its contract. The loop's invariant: no page of the block before the `i`-th is wanted. Assumes nothing.
-use mathlib.Core.Path.{◌≡◌, sym, ◌∙◌}
-use Prim.Native.Nat.{◌+◌, ◌-◌, ◌*◌, ◌≤◌}
+use mathlib.Core.Path.{sym, ◌∙◌}
 use native.Mathlib.Omega.{arith}
-use Rattle.model.specs.Lists.{any}
-use Rattle.model.specs.Zones.{whole_from}
-use Rattle.zones.specs.Judging.{wanted_by, holds_by}
+use Rattle.zones.specs.Judging.{holds_by}
 use Rattle.zones.proofs.Pages.{pages_start, pages_hit, pages_more, pages_end}
 use Rattle.zones.proofs.holds_wanted.Goals as goal
 

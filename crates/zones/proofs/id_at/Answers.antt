@@ -1,7 +1,5 @@
 -- `zones::id_at` meets its contract: each return by the test that led to it. Assumes nothing.
 use mathlib.Core.Path.{sym, ◌∙◌}
-use borrow.Author.Rules.{rules}
-use borrow.Author.Tests.{not-true, not-false}
 use Rattle.zones.proofs.Near.{id_zero, id_torn, id_whole}
 use Rattle.zones.proofs.id_at.Goals as goal
 

@@ -1,9 +1,6 @@
 -- `zones::id_in` meets its contract. The loop's invariant: no whole page of the blocks before the `i`-th has the identifier. Assumes nothing.
-use mathlib.Core.Path.{◌≡◌, refl, sym, ◌∙◌}
-use Prim.Native.Nat.{◌-◌, ◌≤◌}
+use mathlib.Core.Path.{refl, sym, ◌∙◌}
 use native.Mathlib.Omega.{arith}
-use lib.ListN.{length, drop}
-use Rattle.model.specs.Zones.{scan_in, on_pages}
 use Rattle.zones.proofs.Pages.{block_hit, block_more, block_end}
 use Rattle.zones.proofs.id_in.Goals as goal
 

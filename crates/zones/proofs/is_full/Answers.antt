@@ -2,7 +2,6 @@
 use mathlib.Core.Path.{ap, ◌∙◌}
 use mathlib.Core.Bool.{not}
 use Rattle.zones.proofs.Pages.{full_last, blank_last}
-use borrow.Author.Rules.{rules}
 use Rattle.zones.proofs.is_full.Goals as goal
 
 pub returns-then-full : goal.returns-then-full

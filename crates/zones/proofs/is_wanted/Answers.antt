@@ -2,7 +2,6 @@
 use mathlib.Core.Path.{sym, ◌∙◌}
 use borrow.Author.Tests.{eq-eqb, ne_eqb}
 use Rattle.zones.specs.Judging.{wanted_id}
-use borrow.Author.Rules.{rules}
 use Rattle.zones.proofs.is_wanted.Goals as goal
 
 pub returns-then-id-eq0 : goal.returns-then-id-eq0

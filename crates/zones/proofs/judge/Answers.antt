@@ -1,11 +1,9 @@
 -- `zones::judge` meets its contract. The loop's invariant: of the first `i` blocks, those that hold a page which is wanted stand behind the list. Assumes nothing.
-use mathlib.Core.Path.{◌≡◌, refl}
-use mathlib.Core.List.{◌++◌, append-nil}
-use Prim.Native.Nat.{◌-◌, ◌≤◌}
+use mathlib.Core.Path.{refl}
+use mathlib.Core.List.{append-nil}
 use native.Mathlib.Omega.{arith}
-use lib.ListN.{length, take}
 use Rattle.model.specs.Lists.{those}
-use Rattle.blocks.specs.Blocks.{blocks_of, list_of}
+use Rattle.blocks.specs.Blocks.{list_of}
 use Rattle.blocks.proofs.Kept.{kept_count}
 use Rattle.zones.specs.Judging.{holds_by}
 use Rattle.zones.proofs.Picks.{picks_few, picks_kept, picks_next, picks_end}

@@ -1,12 +1,7 @@
 -- `zones::list_block` meets its contract. The loop's invariant: what is listed, with the identifiers of the pages from the `j`-th on, is
 -- the whole list. Assumes nothing.
-use mathlib.Core.Path.{◌≡◌}
-use mathlib.Core.List.{◌++◌}
-use Prim.Native.Nat.{◌+◌, ◌-◌, ◌≤◌}
 use native.Mathlib.Omega.{arith}
-use lib.ListN.{length, take, length-set}
-use Rattle.model.specs.Zones.{whole_from}
-use Rattle.zones.specs.Judging.{ids_in}
+use lib.ListN.{take, length-set}
 use Rattle.zones.proofs.Near.{pages_unlisted, page_skipped, page_listed, pages_listed}
 use borrow.Author.Rules.{rules}
 use Rattle.zones.proofs.list_block.Goals as goal

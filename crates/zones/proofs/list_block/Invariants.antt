@@ -3,12 +3,9 @@
 use mathlib.Core.Path.{◌≡◌}
 use mathlib.Core.List.{◌++◌}
 use Prim.Native.Nat.{◌+◌, ◌-◌, ◌≤◌}
-use native.Mathlib.Omega.{arith}
-use lib.ListN.{length, take, length-set}
+use lib.ListN.{length, take}
 use Rattle.model.specs.Zones.{whole_from}
 use Rattle.zones.specs.Judging.{ids_in}
-use Rattle.zones.proofs.Near.{pages_unlisted, page_skipped, page_listed, pages_listed}
-use borrow.Author.Rules.{rules}
 use Rattle.zones.proofs.list_block.Given as goal
 
 abbrev pub invariant-loop-j : goal.invariant-loop-j

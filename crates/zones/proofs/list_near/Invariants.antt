@@ -1,14 +1,11 @@
 -- `zones::list_near` meets its contract. The loop's invariant: what is listed, with the identifiers on the blocks from the `i`-th on, is
 -- the whole list. Assumes nothing.
-use mathlib.Core.Path.{◌≡◌, refl}
+use mathlib.Core.Path.{◌≡◌}
 use mathlib.Core.List.{◌++◌}
 use Prim.Native.Nat.{◌-◌, ◌*◌, ◌≤◌}
-use native.Mathlib.Omega.{arith}
 use lib.ListN.{length, take, drop}
 use Rattle.model.specs.Zones.{scan_in}
 use Rattle.zones.specs.Judging.{ids_in}
-use Rattle.zones.proofs.Near.{block_listed, blocks_listed}
-use borrow.Author.Rules.{rules}
 use Rattle.zones.proofs.list_near.Given as goal
 
 abbrev pub invariant-loop-i : goal.invariant-loop-i

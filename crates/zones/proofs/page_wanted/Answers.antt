@@ -1,7 +1,5 @@
 -- `zones::page_wanted` meets its contract: a page that is not wanted is told apart before it is classed. Assumes nothing.
 use mathlib.Core.Path.{sym, ◌∙◌}
-use borrow.Author.Rules.{rules}
-use borrow.Author.Tests.{not-true, not-false}
 use Rattle.zones.proofs.Wanted.{unwanted_page, wanted_page}
 use Rattle.zones.proofs.page_wanted.Goals as goal
 

@@ -1,15 +1,11 @@
 -- `zones::parted` meets its contract. The loop's invariant: of the first `i` blocks, those that are full, or not, are listed. Assumes nothing.
-use mathlib.Core.Path.{◌≡◌, refl}
+use mathlib.Core.Path.{refl}
 use mathlib.Core.List.{[]}
-use Prim.Native.Nat.{◌-◌, ◌≤◌}
 use native.Mathlib.Omega.{arith}
-use lib.ListN.{length, take}
 use Rattle.model.specs.Lists.{those}
-use Rattle.blocks.specs.Blocks.{blocks_of}
 use Rattle.zones.specs.Judging.{full_is}
 use Rattle.zones.proofs.Picks.{picks_few, picks_kept, picks_next, picks_end}
 use Rattle.zones.proofs.Sliding.{parts}
-use borrow.Author.Rules.{rules}
 use Rattle.zones.proofs.parted.Goals as goal
 
 pub loop-i-init : goal.loop-i-init

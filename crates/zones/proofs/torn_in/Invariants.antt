@@ -1,10 +1,8 @@
 -- `zones::torn_in` meets its contract. The loop's invariant: the torn pages counted with those of the blocks that are left are all. Assumes nothing.
-use mathlib.Core.Path.{◌≡◌, refl}
+use mathlib.Core.Path.{◌≡◌}
 use Prim.Native.Nat.{◌+◌, ◌-◌, ◌*◌, ◌≤◌}
-use native.Mathlib.Omega.{arith}
 use lib.ListN.{length, drop}
 use Rattle.model.specs.Zones.{torn_in}
-use Rattle.zones.proofs.Torn.{block_torn, blocks_torn}
 use Rattle.zones.proofs.torn_in.Given as goal
 
 abbrev pub invariant-loop-i : goal.invariant-loop-i

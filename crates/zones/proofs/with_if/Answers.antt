@@ -2,8 +2,6 @@
 use mathlib.Core.Path.{sym, ap, ◌∙◌}
 use mathlib.Core.List.{append-nil}
 use Rattle.blocks.specs.Blocks.{blocks_of, list_of}
-use borrow.Author.Tests.{not-true, not-false}
-use borrow.Author.Rules.{rules}
 use Rattle.zones.proofs.with_if.Goals as goal
 
 pub returns-then-not-taken : goal.returns-then-not-taken

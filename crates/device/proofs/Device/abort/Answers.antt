@@ -1,5 +1,4 @@
 -- `Device::abort` meets its contract: `opening::abort` does. Assumes nothing.
-use borrow.Author.Rules.{rules}
 use Rattle.device.proofs.Device.abort.Goals as goal
 
 pub returns : goal.returns

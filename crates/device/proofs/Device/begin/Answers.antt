@@ -1,5 +1,4 @@
 -- `Device::begin` meets its contract: `opening::begin` does. Assumes nothing.
-use borrow.Author.Rules.{rules}
 use Rattle.device.proofs.Device.begin.Goals as goal
 
 pub returns : goal.returns

@@ -1,5 +1,4 @@
 -- `Device::checkpoint` meets its contract: `housekeeping::checkpoint` does. Assumes nothing.
-use borrow.Author.Rules.{rules}
 use Rattle.device.proofs.Device.checkpoint.Goals as goal
 
 pub returns : goal.returns

@@ -1,5 +1,4 @@
 -- `Device::commit` meets its contract: `writing::commit` does. Assumes nothing.
-use borrow.Author.Rules.{rules}
 use Rattle.device.proofs.Device.commit.Goals as goal
 
 pub returns : goal.returns

@@ -1,5 +1,4 @@
 -- `Device::drop` meets its contract: `writing::drop` does. Assumes nothing.
-use borrow.Author.Rules.{rules}
 use Rattle.device.proofs.Device.drop.Goals as goal
 
 pub returns : goal.returns

@@ -1,5 +1,4 @@
 -- `Device::format` meets its contract: `starting::format` does. Assumes nothing.
-use borrow.Author.Rules.{rules}
 use Rattle.device.proofs.Device.format.Goals as goal
 
 pub returns : goal.returns

@@ -1,5 +1,4 @@
 -- `Device::lone` meets its contract: `writing::lone` does. Assumes nothing.
-use borrow.Author.Rules.{rules}
 use Rattle.device.proofs.Device.lone.Goals as goal
 
 pub returns : goal.returns

@@ -1,5 +1,4 @@
 -- `Device::read` meets its contract: `reading::read` does. Assumes nothing.
-use borrow.Author.Rules.{rules}
 use Rattle.device.proofs.Device.read.Goals as goal
 
 pub returns : goal.returns

@@ -1,5 +1,4 @@
 -- `Device::read_part` meets its contract: `reading::read_part` does. Assumes nothing.
-use borrow.Author.Rules.{rules}
 use Rattle.device.proofs.Device.read_part.Goals as goal
 
 pub returns : goal.returns

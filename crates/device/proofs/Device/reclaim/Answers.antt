@@ -1,5 +1,4 @@
 -- `Device::reclaim` meets its contract: `housekeeping::reclaim` does. Assumes nothing.
-use borrow.Author.Rules.{rules}
 use Rattle.device.proofs.Device.reclaim.Goals as goal
 
 pub returns : goal.returns

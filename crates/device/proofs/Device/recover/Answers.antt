@@ -1,5 +1,4 @@
 -- `Device::recover` meets its contract: `starting::recover` does. Assumes nothing.
-use borrow.Author.Rules.{rules}
 use Rattle.device.proofs.Device.recover.Goals as goal
 
 pub returns : goal.returns

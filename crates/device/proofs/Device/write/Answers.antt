@@ -1,5 +1,4 @@
 -- `Device::write` meets its contract: `writing::write` does. Assumes nothing.
-use borrow.Author.Rules.{rules}
 use Rattle.device.proofs.Device.write.Goals as goal
 
 pub returns : goal.returns
