@@ -8,7 +8,7 @@ use Rattle.std.proofs.lemmas.Bool.{false≢true}
 use mathlib.Core.List.{List, []}
 use Rattle.model.specs.Answers.{refused}
 use Rattle.model.specs.Geometry.{map_pages, blank_map}
-use Rattle.model.specs.Checkpoint.{map_page, at}
+use Rattle.model.specs.Checkpoint.{map_page}
 use Rattle.model.specs.Recover.{recover_plan, plan_recover, page_taken, recover_checks}
 use Rattle.model.specs.World.{World, program, erase, refuse, Plan}
 use Rattle.model.specs.Order.{first_number}

@@ -7,7 +7,7 @@ use Rattle.std.proofs.Math.ListN.{length-set}
 use Rattle.std.proofs.lemmas.Bool.{not-false}
 use Rattle.model.specs.Checkpoint.{at, load_ok, is_nothing}
 use Rattle.model.specs.Recover.{entries_at, zones_at, recovered_state, recover_plan, plan_recover, page_taken, recover_checks}
-use Rattle.model.specs.World.{World, Op, none, Plan, refuse}
+use Rattle.model.specs.World.{World, Op, Plan, refuse}
 use Rattle.model.specs.Order.{Check, leave_out, checked}
 use Rattle.model.specs.Frame.{free_place, no_place, lent_ok, frame_ok, fresh_state}
 use Rattle.model.specs.Transactions.{with_place, with_version, with_last, next_page, taking, begun, plan_begin, written, held_state, write_plan, has_held, begin_checks, write_checks, drop_checks, lone_checks, commit_checks, abort_checks}

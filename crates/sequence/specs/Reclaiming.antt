@@ -9,7 +9,7 @@ use Rattle.model.specs.Page.{page_at, page_bytes, data_at, whole_at}
 use Rattle.model.specs.Geometry.{unmapped, data_block}
 use Rattle.model.specs.World.{World, Plan, erase, apply_op, cut_op}
 use Rattle.model.specs.Frame.{is_idle}
-use Rattle.model.specs.Checkpoint.{Found, at}
+use Rattle.model.specs.Checkpoint.{Found}
 use Rattle.model.specs.Transactions.{clean_pages, next_page, spent, data_bytes, lone_map, with_version, with_last}
 use Rattle.model.specs.Strides.{with_work, with_zones, is_reclaim, mapped_in, lowest_from, copy_stride, free_stride, reclaim_stride, plan_reclaim, block_taken, reclaim_checks}
 use Rattle.model.specs.Commands.{reclaim, plan, carried}

@@ -25,7 +25,7 @@ use Rattle.arrays.specs.Ranges.{page_least}
 use Rattle.front.specs.ZoneBack.{plain}
 use Rattle.front.specs.Blocks.{InFront}
 use Rattle.front.specs.Recovered.{state_of}
-use Rattle.front.specs.CheckpointStrides.{zones, checkpoint_stride_law}
+use Rattle.front.specs.CheckpointStrides.{checkpoint_stride_law}
 use Rattle.front.specs.CheckpointOps.{stride_in_front}
 use Rattle.scanlog.specs.Sublist.{Sublist, sub_refl, sub_nil, sub_append}
 use Rattle.scanlog.specs.Free.{grown_scan}

@@ -9,7 +9,6 @@ use Rattle.model.specs.Frame.{lent_ok}
 use Rattle.model.specs.Recover.{plan_recover, recover_checks, recover_plan, page_taken}
 use Rattle.model.specs.Transactions.{plan_begin, plan_write, plan_drop, plan_lone, plan_commit, plan_abort}
 use Rattle.model.specs.Strides.{plan_checkpoint, plan_reclaim}
-use Rattle.model.specs.Checkpoint.{at}
 use Rattle.model.specs.Commands.{Call, format, recover, begin, write, drop_page, lone, commit, abort, read, checkpoint, reclaim, plan, carried, exec, Outcome}
 use Rattle.model.specs.Book.{Book, Event, called, blank, tell, story, entering, changing}
 use Rattle.model.specs.Sequence.{fits, Running, Phase, live, dark, array_of, Allowed, cut_event, cut_array, early_event, early_array}

@@ -7,7 +7,6 @@ use Rattle.std.proofs.Math.Bool.{false}
 use Rattle.std.proofs.lemmas.Bool.{false≢true}
 use Rattle.model.specs.Lists.{those, all}
 use Rattle.model.specs.Geometry.{map_pages}
-use Rattle.model.specs.Checkpoint.{at}
 use Rattle.model.specs.Answers.{refused}
 use Rattle.model.specs.World.{World, Plan, refuse, apply_op}
 use Rattle.model.specs.Order.{Check, first_number, leave_out, checked}

@@ -1,5 +1,4 @@
 -- `bokuhira::bokuhira_commit` meets its contract: of a state, by what the device replies. Assumes nothing.
-use borrow.Author.Rules.{rules}
 use Rattle.model.specs.Commands.{commit}
 use Rattle.bokuhira.proofs.Calls.{uncoded, coded, coded_long, unmet, met}
 use Rattle.bokuhira.proofs.bokuhira_commit.Goals as goal

@@ -1,5 +1,4 @@
 -- `bokuhira::bokuhira_drop` meets its contract: of a state, by what the device replies. Assumes nothing.
-use borrow.Author.Rules.{rules}
 use Rattle.model.specs.Commands.{drop_page}
 use Rattle.bokuhira.proofs.Calls.{uncoded, coded, coded_long, unmet, met}
 use Rattle.bokuhira.proofs.bokuhira_drop.Goals as goal

@@ -1,5 +1,4 @@
 -- `bokuhira::bokuhira_format` meets its contract: of as many bytes as a state has, by what the device replies. Assumes nothing.
-use borrow.Author.Rules.{rules}
 use Rattle.model.specs.Commands.{format}
 use Rattle.bokuhira.proofs.Calls.{unstarted, long, start_met}
 use Rattle.bokuhira.proofs.bokuhira_format.Goals as goal

@@ -1,5 +1,4 @@
 -- `bokuhira::bokuhira_lone` meets its contract: of a state, by what the device replies. Assumes nothing.
-use borrow.Author.Rules.{rules}
 use Rattle.model.specs.Commands.{lone}
 use Rattle.bokuhira.proofs.Calls.{uncoded, coded, coded_long, unmet, met}
 use Rattle.bokuhira.proofs.bokuhira_lone.Goals as goal

@@ -1,5 +1,4 @@
 -- `bokuhira::bokuhira_read` meets its contract: of a state, by what the device answers. Assumes nothing.
-use borrow.Author.Rules.{rules}
 use mathlib.Core.Path.{refl}
 use native.Mathlib.Omega.{arith}
 use Rattle.bokuhira.proofs.Calls.{uncoded, coded, read_unmet, read_refused, mapped, read_done}

@@ -1,5 +1,4 @@
 -- `bokuhira::bokuhira_recover` meets its contract: of as many bytes as a state has, by what the device replies of a fresh one. Assumes nothing.
-use borrow.Author.Rules.{rules}
 use Rattle.model.specs.Commands.{recover}
 use Rattle.bokuhira.proofs.Calls.{unstarted, long, recover_met}
 use Rattle.bokuhira.proofs.bokuhira_recover.Goals as goal

@@ -1,5 +1,4 @@
 -- `bokuhira::device` meets its contract. Assumes nothing.
-use borrow.Author.Rules.{rules}
 use Rattle.bokuhira.proofs.Calls.{coded_long}
 use Rattle.bokuhira.proofs.device.Goals as goal
 

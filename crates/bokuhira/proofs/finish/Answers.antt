@@ -1,7 +1,6 @@
 -- `bokuhira::finish` meets its contract: the state is stored unless the answer is a refusal. Assumes nothing.
 use mathlib.Core.Bool.{false}
 use mathlib.Core.Path.{◌≡◌}
-use borrow.Author.Rules.{rules}
 use Rattle.model.specs.Answers.{refused}
 use Rattle.bokuhira.proofs.Calls.{kept, stored, done_stands, more_stands}
 use Rattle.bokuhira.proofs.finish.Goals as goal
@@ -16,9 +15,9 @@ store-requires c = c.requires
 pub returns : goal.returns
 returns c =
     let n = c.number-n.result in
-    let h : refused n ≡ false = 
-        elim c.if-n-ne0.branch [
-          then-n-ne0+else-n w ↦ more_stands n w.if-n.false
-        | else-n-ne0 w ↦ done_stands n w.if-n-ne0.false
-        ] in
+    let h : refused n ≡ false =
+    elim c.if-n-ne0.branch [
+      | then-n-ne0+else-n w ↦ more_stands n w.if-n.false
+      | else-n-ne0 w ↦ done_stands n w.if-n-ne0.false
+    ] in
     stored _ _ _ _ _ c.number-n.ensures h c.store.ensures

@@ -1,6 +1,5 @@
 -- `bokuhira::starting` meets its contract: by whether the bytes encode a state. Assumes nothing.
 use mathlib.Core.Path.{sym, ◌∙◌}
-use borrow.Author.Rules.{rules}
 use Rattle.bokuhira.proofs.Calls.{start_coded, start_fresh}
 use Rattle.bokuhira.proofs.starting.Goals as goal
 

@@ -1,8 +1,6 @@
 -- `encoding::drops_coded` meets its contract. The loop's invariant: the test of the first i bytes. Assumes nothing.
 use mathlib.Core.Path.{◌≡◌, refl}
-use Prim.Native.Nat.{◌+◌, ◌-◌, ◌≤◌}
 use native.Mathlib.Omega.{arith}
-use lib.ListN.{length}
 use borrow.Author.Rules.{rules}
 use Rattle.model.specs.Lists.{all, part}
 use Rattle.encoding.specs.Encoding.{drops_coded}

@@ -1,12 +1,9 @@
 -- `encoding::drops_coded` meets its contract. The loop's invariant: the test of the first i bytes. Assumes nothing.
-use mathlib.Core.Path.{◌≡◌, refl}
+use mathlib.Core.Path.{◌≡◌}
 use Prim.Native.Nat.{◌+◌, ◌-◌, ◌≤◌}
-use native.Mathlib.Omega.{arith}
 use lib.ListN.{length}
-use borrow.Author.Rules.{rules}
-use Rattle.model.specs.Lists.{all, part}
+use Rattle.model.specs.Lists.{part}
 use Rattle.encoding.specs.Encoding.{drops_coded}
-use Rattle.encoding.proofs.Coded.{drops_more}
 use Rattle.encoding.proofs.drops_coded.Given as goal
 
 abbrev pub invariant-loop-i : goal.invariant-loop-i

@@ -1,6 +1,5 @@
 -- `encoding::encodes` meets its contract: each return by the tests on its path. Assumes nothing.
-use borrow.Author.Rules.{rules}
-use borrow.Author.Tests.{le-leb, lt-leb, eq-eqb, ne_eqb, not-true, not-false}
+use borrow.Author.Tests.{le-leb, lt-leb, eq-eqb, ne_eqb}
 use Rattle.encoding.specs.Encoding.{encodes}
 use Rattle.encoding.proofs.encodes.Goals as goal
 

@@ -1,5 +1,4 @@
 -- `encoding::load` meets its contract: each field is what was read for it. Assumes nothing.
-use borrow.Author.Rules.{rules}
 use mathlib.Core.Path.{ap, ◌∙◌}
 use Rattle.encoding.specs.Encoding.{work_from}
 use Rattle.encoding.proofs.Read.{state_read}

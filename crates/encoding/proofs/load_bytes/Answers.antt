@@ -1,7 +1,6 @@
 -- `encoding::load_bytes` meets its contract: `bytes::copy` fills the list (`bytes_copied`). Assumes nothing.
 use native.Mathlib.Nat.{add-sub_cancel_left}
 use native.Mathlib.Omega.{arith}
-use borrow.Author.Rules.{rules}
 use Rattle.encoding.proofs.Taken.{bytes_copied}
 use Rattle.encoding.proofs.load_bytes.Goals as goal
 

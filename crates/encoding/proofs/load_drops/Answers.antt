@@ -1,12 +1,10 @@
 -- `encoding::load_drops` meets its contract. The loop's invariant: the first i drops stand in the list. Assumes nothing.
 use mathlib.Core.Path.{refl}
-use Prim.Native.Nat.{ℕ, ◌+◌, ◌-◌, ◌≤◌}
 use native.Mathlib.Omega.{arith}
-use lib.ListN.{length}
 use borrow.Author.Rules.{rules}
 use Rattle.model.specs.Lists.{part}
 use Rattle.encoding.specs.Encoding.{drops_from}
-use Rattle.page.proofs.Taken.{Filling, filling_none, filling_more, filling_all}
+use Rattle.page.proofs.Taken.{filling_none, filling_more, filling_all}
 use Rattle.encoding.proofs.Taken.{drops_more}
 use Rattle.encoding.proofs.load_drops.Goals as goal
 

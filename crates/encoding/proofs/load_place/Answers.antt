@@ -1,5 +1,4 @@
 -- `encoding::load_place` meets its contract: each field is what was read for it. Assumes nothing.
-use borrow.Author.Rules.{rules}
 use Rattle.encoding.proofs.Read.{place_read}
 use Rattle.encoding.proofs.load_place.Goals as goal
 

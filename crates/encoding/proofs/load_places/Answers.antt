@@ -1,5 +1,4 @@
 -- `encoding::load_places` meets its contract: each place is what was read for it. Assumes nothing.
-use borrow.Author.Rules.{rules}
 use Rattle.encoding.proofs.Read.{places_read}
 use Rattle.encoding.proofs.load_places.Goals as goal
 

@@ -1,5 +1,4 @@
 -- `encoding::load_zones` meets its contract: each field is what was read for it. Assumes nothing.
-use borrow.Author.Rules.{rules}
 use Rattle.encoding.proofs.Read.{zones_read}
 use Rattle.encoding.proofs.load_zones.Goals as goal
 

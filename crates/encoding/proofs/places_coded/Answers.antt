@@ -1,8 +1,6 @@
 -- `encoding::places_coded` meets its contract. The loop's invariant: the test of the first places. Assumes nothing.
 use mathlib.Core.Path.{◌≡◌, refl}
-use Prim.Native.Nat.{◌-◌, ◌≤◌}
 use native.Mathlib.Omega.{arith}
-use lib.ListN.{length}
 use borrow.Author.Rules.{rules}
 use Rattle.encoding.specs.Encoding.{places_coded}
 use Rattle.encoding.proofs.Coded.{places_more}

@@ -1,11 +1,8 @@
 -- `encoding::places_coded` meets its contract. The loop's invariant: the test of the first places. Assumes nothing.
-use mathlib.Core.Path.{◌≡◌, refl}
+use mathlib.Core.Path.{◌≡◌}
 use Prim.Native.Nat.{◌-◌, ◌≤◌}
-use native.Mathlib.Omega.{arith}
 use lib.ListN.{length}
-use borrow.Author.Rules.{rules}
 use Rattle.encoding.specs.Encoding.{places_coded}
-use Rattle.encoding.proofs.Coded.{places_more}
 use Rattle.encoding.proofs.places_coded.Given as goal
 
 abbrev pub invariant-loop-place : goal.invariant-loop-place

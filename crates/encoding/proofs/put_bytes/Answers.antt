@@ -1,7 +1,6 @@
 -- `encoding::put_bytes` meets its contract: what `bytes::copy` stores is laid (`laid_copied`). Assumes nothing.
 use native.Mathlib.Nat.{add-sub_cancel_left}
 use native.Mathlib.Omega.{arith}
-use borrow.Author.Rules.{rules}
 use Rattle.encoding.proofs.Laid.{laid_copied}
 use Rattle.encoding.proofs.put_bytes.Goals as goal
 

@@ -1,11 +1,8 @@
 -- `encoding::put_drops` meets its contract. The loop's invariant: the first i drops are laid. Assumes nothing.
 use mathlib.Core.Path.{◌≡◌}
 use Prim.Native.Nat.{◌+◌, ◌-◌, ◌≤◌}
-use native.Mathlib.Omega.{arith}
-use lib.ListN.{length, take, length-set}
-use borrow.Author.Rules.{rules}
+use lib.ListN.{length, take}
 use Rattle.encoding.specs.Encoding.{drop_bytes, Laid}
-use Rattle.encoding.proofs.Laid.{laid_none, drops_next, drops_end}
 use Rattle.encoding.proofs.put_drops.Given as goal
 
 abbrev pub invariant-loop-i : goal.invariant-loop-i

@@ -1,5 +1,4 @@
 -- `encoding::put_geometry` meets its contract: the fields are laid one after the other. Assumes nothing.
-use borrow.Author.Rules.{rules}
 use mathlib.Core.Path.{refl}
 use Rattle.encoding.specs.Encoding.{geometry_bytes}
 use Rattle.encoding.proofs.Laid.{laid_join}

@@ -1,11 +1,8 @@
 -- `encoding::put_halves` meets its contract. The loop's invariant: the first i numbers are laid. Assumes nothing.
 use mathlib.Core.Path.{refl}
-use Prim.Native.Nat.{◌+◌, ◌-◌, ◌*◌, ◌≤◌}
 use native.Mathlib.Omega.{arith}
-use lib.ListN.{length, take}
 use borrow.Author.Rules.{rules}
 use Rattle.model.specs.Bytes.{bytes16}
-use Rattle.encoding.specs.Encoding.{each, Laid}
 use Rattle.encoding.proofs.Placed.{each_none, each_next, each_end}
 use Rattle.encoding.proofs.put_halves.Goals as goal
 

@@ -1,10 +1,7 @@
 -- `encoding::put_places` meets its contract. The loop's invariant: the first i places are laid. Assumes nothing.
-use mathlib.Core.Path.{◌≡◌}
-use Prim.Native.Nat.{◌-◌, ◌*◌, ◌≤◌}
 use native.Mathlib.Omega.{arith}
-use lib.ListN.{length, take}
 use borrow.Author.Rules.{rules}
-use Rattle.encoding.specs.Encoding.{each, place_bytes, Laid}
+use Rattle.encoding.specs.Encoding.{place_bytes}
 use Rattle.encoding.proofs.Placed.{each_none, each_next, each_end}
 use Rattle.encoding.proofs.put_places.Goals as goal
 

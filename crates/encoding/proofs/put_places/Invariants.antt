@@ -1,11 +1,8 @@
 -- `encoding::put_places` meets its contract. The loop's invariant: the first i places are laid. Assumes nothing.
 use mathlib.Core.Path.{◌≡◌}
 use Prim.Native.Nat.{◌-◌, ◌*◌, ◌≤◌}
-use native.Mathlib.Omega.{arith}
 use lib.ListN.{length, take}
-use borrow.Author.Rules.{rules}
 use Rattle.encoding.specs.Encoding.{each, place_bytes, Laid}
-use Rattle.encoding.proofs.Placed.{each_none, each_next, each_end}
 use Rattle.encoding.proofs.put_places.Given as goal
 
 abbrev pub invariant-loop-i : goal.invariant-loop-i

@@ -1,6 +1,5 @@
 -- `encoding::put_word` meets its contract: what `page::put32` stores is laid (`laid_sets`). Assumes nothing.
 use native.Mathlib.Omega.{arith}
-use borrow.Author.Rules.{rules}
 use Rattle.model.specs.Bytes.{bytes32}
 use Rattle.encoding.proofs.Laid.{laid_sets}
 use Rattle.encoding.proofs.put_word.Goals as goal

@@ -1,5 +1,4 @@
 -- `encoding::store` meets its contract: the fields are laid one after the other and fill the bytes. Assumes nothing.
-use borrow.Author.Rules.{rules}
 use mathlib.Core.Path.{◌≡◌, refl}
 use native.Mathlib.Omega.{arith}
 use lib.ListN.{length, length-set}

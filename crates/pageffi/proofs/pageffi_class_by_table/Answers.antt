@@ -1,7 +1,6 @@
 -- `pageffi::pageffi_class_by_table` meets its contract: each return by the tests on its path. Assumes nothing.
 use mathlib.Core.Path.{ap, ◌∙◌}
 use borrow.Author.Tests.{eq-eqb, ne_eqb}
-use borrow.Author.Rules.{rules}
 use Rattle.model.specs.Page.{class_number}
 use Rattle.pageffi.specs.Numbers.{classed}
 use Rattle.pageffi.proofs.pageffi_class_by_table.Goals as goal

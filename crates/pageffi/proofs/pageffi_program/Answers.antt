@@ -1,6 +1,5 @@
 -- `pageffi::pageffi_program` meets its contract: each return by the tests on its path. Assumes nothing.
 use borrow.Author.Tests.{eq-eqb, ne_eqb}
-use borrow.Author.Rules.{rules}
 use Rattle.pageffi.specs.Numbers.{programmed}
 use Rattle.pageffi.proofs.pageffi_program.Goals as goal
 

@@ -1,6 +1,5 @@
 -- `sessions::blank` meets its contract: the state that nothing is known in. Assumes nothing.
 use mathlib.Core.Path.{ap, ◌∙◌}
-use borrow.Author.Rules.{rules}
 use Rattle.model.specs.Frame.{fresh_state}
 use Rattle.sessions.proofs.blank.Goals as goal
 

@@ -1,6 +1,5 @@
 -- `sessions::call` meets its contract: by the number of the command. Assumes nothing.
 use native.Mathlib.Omega.{arith}
-use borrow.Author.Rules.{rules}
 use Rattle.model.specs.Sessions.{zeros}
 use Rattle.sessions.proofs.Numbers.{begin_number, write_number, commit_number, abort_number}
 use Rattle.sessions.proofs.call.Goals as goal

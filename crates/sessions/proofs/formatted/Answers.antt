@@ -1,10 +1,6 @@
 -- `sessions::formatted` meets its contract. The loop's invariant: the strides that are left lead where all ten do; the measure is the strides that are left. Assumes nothing.
-use mathlib.Core.Path.{◌≡◌, refl, ap, ◌∙◌}
-use Prim.Native.Nat.{◌-◌, ◌≤◌}
+use mathlib.Core.Path.{refl, ap, ◌∙◌}
 use native.Mathlib.Omega.{arith}
-use lib.ListN.{length}
-use borrow.Author.Rules.{rules}
-use Rattle.model.specs.Frame.{fresh_state}
 use Rattle.model.specs.Sessions.{small, strides}
 use Rattle.model.specs.declared.State.{State}
 use Rattle.sessions.proofs.Formats.{stride_again, strides_done_law}

@@ -1,13 +1,8 @@
 -- `sessions::list` meets its contract. The loop's invariant: the lines put and those of the sessions that are longer are the text; the measure is the lengths that are left. Assumes nothing.
-use mathlib.Core.Path.{◌≡◌, sym}
-use mathlib.Core.List.{◌++◌}
-use Prim.Native.Nat.{◌-◌, ◌≤◌}
+use mathlib.Core.Path.{sym}
 use native.Mathlib.Omega.{arith}
-use lib.ListN.{length, take}
 use lib.Seq.{length-take-le}
 use borrow.Author.Rules.{rules}
-use Rattle.model.specs.Sessions.{power, sessions_up}
-use Rattle.sessions.specs.Text.{lines_in, text_of}
 use Rattle.sessions.proofs.Lines.{sizes_start, sizes_again, sizes_done, text_longer, power_start, power_next, power_most}
 use Rattle.sessions.proofs.list.Goals as goal
 

@@ -3,8 +3,6 @@ use mathlib.Core.Path.{refl, ap}
 use mathlib.Core.List.{List, ◌∷◌}
 use Prim.Native.Nat.{ℕ}
 use native.Mathlib.Omega.{arith}
-use borrow.Author.Tests.{not-true, not-false}
-use borrow.Author.Rules.{rules}
 use Rattle.text.specs.Text.{listed}
 use Rattle.text.proofs.Putting.{puts, put_is, put_within, put_nothing}
 use Rattle.sessions.proofs.Cuts.{map_recovered}

@@ -1,12 +1,7 @@
 -- `sessions::put_lines` meets its contract. The loop's invariant: the lines put and those of the sessions that are left are all; the measure is the sessions that are left. Assumes nothing.
-use mathlib.Core.Path.{◌≡◌, refl, ◌∙◌}
-use mathlib.Core.List.{◌++◌}
-use Prim.Native.Nat.{◌-◌, ◌≤◌}
+use mathlib.Core.Path.{refl, ◌∙◌}
 use native.Mathlib.Omega.{arith}
-use lib.ListN.{length, take}
-use borrow.Author.Rules.{rules}
-use Rattle.model.specs.Sessions.{sessions_from}
-use Rattle.sessions.specs.Text.{lines_in}
+use lib.ListN.{take}
 use Rattle.sessions.proofs.Lines.{lines_start, lines_again, lines_done, all_longer}
 use Rattle.sessions.proofs.put_lines.Goals as goal
 

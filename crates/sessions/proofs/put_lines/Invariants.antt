@@ -1,13 +1,10 @@
 -- `sessions::put_lines` meets its contract. The loop's invariant: the lines put and those of the sessions that are left are all; the measure is the sessions that are left. Assumes nothing.
-use mathlib.Core.Path.{◌≡◌, refl, ◌∙◌}
+use mathlib.Core.Path.{◌≡◌}
 use mathlib.Core.List.{◌++◌}
 use Prim.Native.Nat.{◌-◌, ◌≤◌}
-use native.Mathlib.Omega.{arith}
 use lib.ListN.{length, take}
-use borrow.Author.Rules.{rules}
 use Rattle.model.specs.Sessions.{sessions_from}
 use Rattle.sessions.specs.Text.{lines_in}
-use Rattle.sessions.proofs.Lines.{lines_start, lines_again, lines_done, all_longer}
 use Rattle.sessions.proofs.put_lines.Given as goal
 
 abbrev pub invariant-loop-k : goal.invariant-loop-k

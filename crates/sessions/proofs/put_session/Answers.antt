@@ -3,7 +3,6 @@ use mathlib.Core.Path.{sym, ap, subst, ◌∙◌}
 use native.Mathlib.Omega.{arith}
 use lib.ListN.{length}
 use borrow.Author.Tests.{not-true, not-false}
-use borrow.Author.Rules.{rules}
 use Rattle.model.specs.Sessions.{Commands, lent_for, fresh}
 use Rattle.sessions.specs.Listed.{session_long, session_commands}
 use Rattle.sessions.proofs.Lines.{line_put, no_line}

@@ -1,12 +1,9 @@
 -- `sessions::session` meets its contract. The loop's invariant: the digits that are left and those put are the session; the measure is those that are left. Assumes nothing.
-use mathlib.Core.Path.{◌≡◌, refl, ◌∙◌}
+use mathlib.Core.Path.{◌≡◌}
 use mathlib.Core.List.{◌++◌}
-use Prim.Native.Nat.{◌+◌, ◌-◌, ◌%◌, ◌≤◌}
-use native.Mathlib.Omega.{arith}
-use lib.ListN.{length, take, drop, length-set}
-use borrow.Author.Rules.{rules}
+use Prim.Native.Nat.{◌≤◌}
+use lib.ListN.{length, take, drop}
 use Rattle.model.specs.Sessions.{session}
-use Rattle.sessions.proofs.Digits.{digit_again, digits_start, digits_done}
 use Rattle.sessions.proofs.session.Given as goal
 
 abbrev pub invariant-loop-i : goal.invariant-loop-i

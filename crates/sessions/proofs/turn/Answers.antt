@@ -1,7 +1,6 @@
 -- `sessions::turn` meets its contract: the map before is put, and dropped again where the command is refused; else the map after stands behind it. Assumes nothing.
 use mathlib.Core.Path.{refl}
 use native.Mathlib.Omega.{arith}
-use borrow.Author.Rules.{rules}
 use Rattle.sessions.proofs.Cuts.{turn_refused, turn_accepted}
 use Rattle.sessions.proofs.turn.Goals as goal
 

@@ -1,11 +1,8 @@
 -- `sessions::turns` meets its contract. The loop's invariant: so many commands of the session were done; the measure is those that are left. Assumes nothing.
-use mathlib.Core.Path.{◌≡◌, refl, ◌∙◌}
+use mathlib.Core.Path.{◌≡◌}
 use Prim.Native.Nat.{◌-◌}
-use native.Mathlib.Omega.{arith}
 use lib.ListN.{length}
-use borrow.Author.Tests.{not-true, not-false}
-use borrow.Author.Rules.{rules}
-use Rattle.sessions.proofs.Cuts.{command_at, Going, going_start, going_again, going_refused, going_done}
+use Rattle.sessions.proofs.Cuts.{Going}
 use Rattle.sessions.proofs.turns.Given as goal
 
 abbrev pub invariant-loop-i : goal.invariant-loop-i

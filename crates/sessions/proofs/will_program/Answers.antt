@@ -1,7 +1,6 @@
 -- `sessions::will_program` meets its contract: by the number of the command. Assumes nothing.
 use mathlib.Core.Path.{refl}
 use native.Mathlib.Omega.{arith}
-use borrow.Author.Rules.{rules}
 use Rattle.sessions.specs.Text.{will_program}
 use Rattle.sessions.proofs.Numbers.{begin_number, write_number, commit_number, abort_number}
 use Rattle.sessions.proofs.will_program.Goals as goal

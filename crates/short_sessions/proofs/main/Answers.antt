@@ -1,6 +1,5 @@
 -- `short_sessions::main` meets its contract: what `list` put lies in the buffer. Assumes nothing.
 use mathlib.Core.Path.{subst}
-use borrow.Author.Rules.{rules}
 use Rattle.sessions.specs.Text.{Lists}
 use Rattle.short_sessions.proofs.main.Goals as goal
 

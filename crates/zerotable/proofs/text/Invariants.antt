@@ -1,16 +1,10 @@
 -- `zerotable::text` meets its contract. The loop's invariant: the lines put and those from value x on are all. Assumes nothing.
-use mathlib.Core.Path.{◌≡◌, refl, sym, ap}
-use mathlib.Core.List.{[], ◌++◌}
-use Prim.Native.Nat.{◌+◌, ◌-◌, ◌*◌, ◌≤◌}
-use native.Mathlib.Omega.{arith}
+use mathlib.Core.Path.{◌≡◌}
+use mathlib.Core.List.{◌++◌}
+use Prim.Native.Nat.{◌-◌, ◌*◌, ◌≤◌}
 use lib.ListN.{length, take}
-use lib.Seq.{length-take-le}
-use borrow.Author.Rules.{rules}
-use Rattle.lines.specs.Text.{number_line}
-use Rattle.text.proofs.Putting.{put_is}
 use Rattle.table.specs.Counts.{counts}
 use Rattle.zerotable.specs.Text.{lines_of}
-use Rattle.zerotable.proofs.Printing.{lines_again, lines_done}
 use Rattle.zerotable.proofs.text.Given as goal
 
 abbrev pub invariant-loop-x : goal.invariant-loop-x

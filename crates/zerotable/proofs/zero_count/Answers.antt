@@ -1,7 +1,6 @@
 -- `zerotable::zero_count` meets its contract: a byte has at most 8 ones. Assumes nothing.
 use native.Mathlib.Omega.{arith}
 use lib.Count.{ones-le}
-use borrow.Author.Rules.{rules}
 use Rattle.zerotable.proofs.zero_count.Goals as goal
 
 pub overflow_sub-result : goal.overflow_sub-result
