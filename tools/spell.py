@@ -114,6 +114,8 @@ def main():
             own |= d
             for n in d:
                 where[n].add(os.path.relpath(p, ROOT))
+    if own & set(FIXED.values()):
+        sys.exit("spell.py has run here before: a second run would take definitions for the lemmas about them")
     turn = {n: snake(n) for n in own if snake(n) != n}
     clash = 0
     for p in files(".antt"):
