@@ -170,6 +170,10 @@ module _ (w : World) (b : Book) (h : Live w b) where
         stride_did w ys h.saved h.kept (slide_fits g xs w.state.places w.state.zones (live_range w b h) slid_tidy.ok) l s
         (sound_did g.pages l.op xs ok)
 
+  -- what the call does to the array is sound
+  pub checkpoint_sound : operation.Sound g.pages (plan_checkpoint w).op xs
+  checkpoint_sound = ok (plan_checkpoint w) does
+
   stride_keeps : (l : Plan) → Stride w l → plan_checkpoint w ≡ l → Keeps checkpoint w b
   unfolding plan
   stride_keeps l (refuses n r) e = refused_live w b checkpoint (unfold exec carried in rw e r) h

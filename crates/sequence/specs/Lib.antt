@@ -26,6 +26,7 @@ pub mod Cuts
 pub mod RunsKept
 pub mod Start
 pub mod Theorem
+pub mod SoundOps
 pub mod ScanOrder
 pub mod UnderWay
 pub mod Claims

@@ -104,7 +104,7 @@ module _ (w : World) (b : Book) (h : Live w b) (c : ℕ) (on : GoingOn w c) wher
   is_data : data_block g c ≡ true
   is_data = block_is g c few.low (omega (arith, few.high, (live_range w b h).blocks_least))
 
-  inside : BlockFits g.pages xs c
+  pub inside : BlockFits g.pages xs c
   inside = data_block_fits g xs h.sound.long c is_data
 
   -- ---- a copy
