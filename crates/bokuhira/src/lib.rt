@@ -42,6 +42,8 @@ fn starting(state: &[u8], g: Geometry) -> Device
 }
 
 /// The answer's number of a reply; unless it refuses, its state is stored.
+// in the frame of its caller: the reply is not copied once more
+#[inline(always)]
 fn finish(state: &mut [u8], r: Reply) -> u8
     requires { length state.old ≡ 2881 }
     ensures { (result ≡ number r.answer) × (state.new ≡ cond (refused (number r.answer)) state.old (bytes_of r.device.state)) }

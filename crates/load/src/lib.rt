@@ -112,6 +112,8 @@ pub fn zone_page_ok(g: Geometry, z: &[u8]) -> bool
 }
 
 /// Whether refusal 3 passes the map entries, used and unused.
+// in a frame of its own: its table is gone before the scan
+#[inline(never)]
 pub fn entries_ok(g: Geometry, entries: &[u16]) -> bool
     requires { Entries g entries.now }
     ensures { result ≡ (map_ok g (take g.logical entries.now) && all (eqb unmapped) (drop g.logical entries.now)) }

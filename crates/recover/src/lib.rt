@@ -1,7 +1,8 @@
 // Recover, from a complete checkpoint: 3, 4, and else the map and the state that follow. It programs nothing.
 #![tactic(auto)]
 
-ghost use Rattle.std.specs.Prelude.{◌≡◌, true, ◌<◌, take};
+ghost use Rattle.std.specs.Prelude.{◌≡◌, true, false, ◌<◌, take};
+ghost use Rattle.model.specs.declared.State.{State};
 ghost use Rattle.model.specs.Answers.{number};
 ghost use Rattle.model.specs.Geometry.{geometry_ok};
 ghost use Rattle.model.specs.Zones.{scan_in};
@@ -135,18 +136,21 @@ fn recovered(g: Geometry, zones: Zones, version: u32, checkpoint: u32, k: usize)
     }
 }
 
-/// Scans and applies what the zones of a checkpoint list: 4, or done.
-fn apply(
-    s: State,
-    array: &[u8],
-    map: &mut [u16],
-    g: Geometry,
-    k: usize,
-    z: &[u8],
-    entries: &[u16],
-) -> Stride
+/// What a checkpoint and the scan after it say: whether refusal 4 passes the scan, and of what the state is made then.
+#[derive(Clone, Copy)]
+struct Applied {
+    good: bool,
+    zones: Zones,
+    version: u32,
+    number: u32,
+}
+
+/// Scans and applies what the zones of a checkpoint list. No state goes in and none comes out: the scan's lists take most of the stack that there is.
+#[inline(never)]
+fn apply(array: &[u8], map: &mut [u16], g: Geometry, k: usize, z: &[u8], entries: &[u16]) -> Applied
     requires { Standing g array.now map.old k × Loaded g array.now k z.now entries.now }
-    ensures { Strode (from_plan g k) s array.now map.old (number result.answer) array.now map.new result.state }
+    ensures refused { result.good ≡ false → (s : State) → Strode (from_plan g k) s array.now map.old 4 array.now map.new s }
+    ensures done { result.good ≡ true → (s r : State) → r ≡ recovered_of g result.zones result.version result.number k → Strode (from_plan g k) s array.now map.old 0 array.now map.new r }
 {
     let zones = load::zones_in(z);
     let floor = page::word32(z, 0);
@@ -154,13 +158,12 @@ fn apply(
     let list = order.list;
     let n = order.n;
     let r = scan_blocks(array, map, g, &list[..n], floor, entries);
-    if !r.good {
-        return strides::refused(s, Refusal::BAD_PAGE);
-    }
     let number = checkpoint::number_at(array, k);
-    Stride {
-        answer: Answer::Done,
-        state: recovered(g, zones, recovery::higher(floor, r.top), number, k),
+    Applied {
+        good: r.good,
+        zones,
+        version: recovery::higher(floor, r.top),
+        number,
     }
 }
 
@@ -180,5 +183,12 @@ pub fn recover_from(s: State, array: &[u8], map: &mut [u16], g: Geometry, k: usi
     if !load::zone_page_ok(g, &array[a..e]) {
         return strides::refused(s, Refusal::BAD_CHECKPOINT);
     }
-    apply(s, array, map, g, k, &array[a..e], &entries[..used])
+    let f = apply(array, map, g, k, &array[a..e], &entries[..used]);
+    if !f.good {
+        return strides::refused(s, Refusal::BAD_PAGE);
+    }
+    Stride {
+        answer: Answer::Done,
+        state: recovered(g, f.zones, f.version, f.number, k),
+    }
 }

@@ -142,6 +142,8 @@ fn enter_all(
 
 /// Enters the committed transactions above the floor by rising version; the highest version of the scan is given, and its pages of changes
 /// sorted by TxID, those of one in turn. `other` is room for the scan's pages. `planes` says which turn that is, to the contract alone.
+// in a frame of its own, beside that of the sort
+#[inline(never)]
 pub fn redo(
     map: &mut [u16],
     array: &[u8],

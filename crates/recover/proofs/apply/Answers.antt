@@ -1,11 +1,9 @@
 -- `recover::apply` meets its contract: the zone lists are read, and what they list is scanned. Assumes nothing.
 use native.Mathlib.Omega.{arith}
-use borrow.Author.Tests.{not-true, not-false}
 use Rattle.blocks.proofs.Kept.{kept_list}
-use Rattle.recover.proofs.Entries.{first_small, zone_fits, zone_long}
+use Rattle.recover.proofs.Entries.{zone_fits, zone_long}
 use Rattle.recover.proofs.Lists.{counts, counted, scannable, kept_inside, kept_length}
 use Rattle.recover.proofs.Plans.{bad_page_law, recovers}
-use mathlib.Core.Path.{refl}
 use Rattle.recover.proofs.apply.Goals as goal
 
 pub zones_in-zones-requires : goal.zones_in-zones-requires
@@ -33,28 +31,19 @@ scan_blocks-r-requires c =
     let a = c.args in
     scannable a.g a.array.now a.map.now a.k c.requires.0 a.z.now a.entries.now c.requires.1 c.zones_in-zones.result c.zones_in-zones.ensures c.scan_order-order.result c.scan_order-order.ensures
 
-pub refused-requires : goal.refused-requires
-refused-requires c = refl
-
-pub returns-then-not-r : goal.returns-then-not-r
-returns-then-not-r c =
-    let a = c.args in
-    rw (c.refused.ensures.0, c.refused.ensures.1)
-    (bad_page_law a.g a.s a.array.now a.map.now a.k a.z.now a.entries.now c.requires.1 c.zones_in-zones.result c.zones_in-zones.ensures c.word32-floor.result c.word32-floor.ensures _
-    (kept_list c.scan_order-order.result _ c.scan_order-order.ensures) _ _ _ c.scan_blocks-r.ensures (not-true _ c.if-not-r.true))
-
 pub number_at-number-requires : goal.number_at-number-requires
 number_at-number-requires c =
     let a = c.args in
     let f = zone_fits a.g a.array.now a.map.now a.k c.requires.0 in
     omega arith
 
-pub recovered-requires : goal.recovered-requires
-recovered-requires c = let a = c.args in (c.requires.0.shape, first_small a.g a.array.now a.map.now a.k c.requires.0)
-
 pub returns : goal.returns
 returns c =
     let a = c.args in
-    recovers a.g a.s a.array.now a.map.now a.k a.z.now a.entries.now c.requires.1 c.zones_in-zones.result c.zones_in-zones.ensures c.word32-floor.result c.word32-floor.ensures _
-    (kept_list c.scan_order-order.result _ c.scan_order-order.ensures) _ _ _ c.scan_blocks-r.ensures (not-false _ c.if-not-r.false) c.higher.result c.number_at-number.result
-    c.higher.ensures c.number_at-number.ensures c.recovered.result c.recovered.ensures
+    let order = kept_list c.scan_order-order.result _ c.scan_order-order.ensures in
+    record {
+      refused = λ e s. bad_page_law a.g s a.array.now a.map.now a.k a.z.now a.entries.now c.requires.1 c.zones_in-zones.result c.zones_in-zones.ensures c.word32-floor.result
+          c.word32-floor.ensures _ order _ _ _ c.scan_blocks-r.ensures e;
+      done = λ e s r er. recovers a.g s a.array.now a.map.now a.k a.z.now a.entries.now c.requires.1 c.zones_in-zones.result c.zones_in-zones.ensures c.word32-floor.result
+          c.word32-floor.ensures _ order _ _ _ c.scan_blocks-r.ensures e c.higher.result c.number_at-number.result c.higher.ensures c.number_at-number.ensures r er;
+    }

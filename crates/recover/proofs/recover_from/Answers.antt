@@ -5,7 +5,8 @@ use native.Mathlib.Omega.{arith}
 use lib.ListN.{length}
 use lib.Seq.{length-take-le}
 use borrow.Author.Rules.{rules}
-use Rattle.recover.proofs.Entries.{maps_most, maps_fit, zone_fits}
+use borrow.Author.Tests.{not-true, not-false}
+use Rattle.recover.proofs.Entries.{maps_most, maps_fit, zone_fits, first_small}
 use Rattle.recover.proofs.Plans.{entries_refused, zones_refused, loaded}
 use Rattle.recover.proofs.recover_from.Goals as goal
 
@@ -92,10 +93,23 @@ slice_bounds-apply-end-2 c =
     let l : length c.load_map-entries.result ≡ 1024 = search rules in
     sym (length-take-le _ c.load_map-entries.result (omega arith))
 
-pub apply-requires : goal.apply-requires
-apply-requires c =
+pub apply-f-requires : goal.apply-f-requires
+apply-f-requires c =
     let a = c.args in (
       c.requires,
       loaded a.g a.s a.array.now a.map.now a.k c.requires c.map_pages-m.result c.map_pages-m.ensures c.load_map-entries.result c.load_map-entries.ensures c.entries_ok.result
           c.entries_ok.ensures c.if-not-entries_ok.false c.zone_page_ok.result c.zone_page_ok.ensures c.if-not-zone_page_ok.false,
     )
+
+pub refused-requires-then-not-f : goal.refused-requires-then-not-f
+refused-requires-then-not-f c = refl
+
+pub returns-then-not-f : goal.returns-then-not-f
+returns-then-not-f c =
+    rw (c.refused-then-not-f.ensures.0, c.refused-then-not-f.ensures.1) (c.apply-f.ensures.refused (not-true _ c.if-not-f.true) c.args.s)
+
+pub recovered-requires : goal.recovered-requires
+recovered-requires c = let a = c.args in (c.requires.shape, first_small a.g a.array.now a.map.now a.k c.requires)
+
+pub returns : goal.returns
+returns c = c.apply-f.ensures.done (not-false _ c.if-not-f.false) c.args.s _ c.recovered.ensures
