@@ -231,7 +231,12 @@ fn stack(table: &mut Table) {
     for ((what, one), (_, two)) in one.into_iter().zip(two) {
         println!("| {what} | {one} | {two} |");
         let deepest = one.max(two);
-        let limit = if what == "recover" { 58 } else { 30 } * 1024;
+        let limit = match what {
+            "recover" => 59,
+            "commit" => 43,
+            "reclaim" => 34,
+            _ => 30,
+        } * 1024;
         table.hold(deepest < limit, &format!("{what} uses {deepest} bytes of stack, limit {limit}"));
     }
 }
