@@ -129,10 +129,10 @@ extern "C" {
 #define BOKUHIRA_ARRAY_MAX BOKUHIRA_ARRAY(BOKUHIRA_BLOCKS_MAX, BOKUHIRA_PAGES_MAX)
 
 /*
- * Stack for a call. Recover takes less than 58 KiB, every other function less than 30 KiB; this is 6 KiB more. It is true of the
- * archive as rattle-kit-5b-plain compiled it for x86-64: measured (docs/BENCHMARKS.md), and added up from the frames, since nothing in
- * it calls itself or through a pointer. Of the archive of the kit of today it is not measured yet. The caller's own frames, and
- * interrupts on the same stack, come on top.
+ * Stack for a call. Recover takes less than 59 KiB, commit less than 43, reclaim less than 34, every other function less than 30 KiB;
+ * this is 5 KiB more than the deepest. It is true of the archive as rattle-kit-13f compiles it for x86-64: measured
+ * (docs/BENCHMARKS.md), and added up from the frames, since nothing in it calls itself or through a pointer. The caller's own frames,
+ * and interrupts on the same stack, come on top.
  */
 #define BOKUHIRA_STACK 65536
 
