@@ -107,13 +107,10 @@ def foreign(text):
 
 
 def main():
-    own, where = set(), defaultdict(set)
+    own = set()
     for p in files(".antt"):
         if is_shared(p):
-            d = declared(p)
-            own |= d
-            for n in d:
-                where[n].add(os.path.relpath(p, ROOT))
+            own |= declared(p)
     if own & set(FIXED.values()):
         sys.exit("spell.py has run here before: a second run would take definitions for the lemmas about them")
     turn = {n: snake(n) for n in own if snake(n) != n}
