@@ -10,25 +10,7 @@ use model::{Answer, Refusal};
 fn refusal_number(why: Refusal) -> u8
     ensures { result ≡ refusal_number why }
 {
-    match why {
-        Refusal::BadFrame => 1,
-        Refusal::NoCheckpoint => 2,
-        Refusal::BadCheckpoint => 3,
-        Refusal::BadPage => 4,
-        Refusal::BadLogicalPage => 5,
-        Refusal::BadIdentifier => 6,
-        Refusal::IdentifierLive => 7,
-        Refusal::NotBegun => 8,
-        Refusal::PlacesFull => 9,
-        Refusal::TooLong => 10,
-        Refusal::BadLength => 11,
-        Refusal::ZoneShort => 12,
-        Refusal::VersionsSpent => 13,
-        Refusal::NeverWritten => 14,
-        Refusal::NoGain => 15,
-        Refusal::ReserveShort => 16,
-        Refusal::Busy => 17,
-    }
+    why as u8
 }
 
 /// The refusals by their numbers, from 1 up.
@@ -72,11 +54,9 @@ pub fn number(answer: Answer) -> u8
 }
 
 /// Whether an answer with this number is a refusal.
+#[tactic(auto, unfolding(model::specs::Answers::refused))]
 pub fn refused(answer: u8) -> bool
     ensures { result ≡ refused answer }
 {
-    if answer == 0 {
-        return false;
-    }
-    answer != 255
+    answer != 0 && answer != 255
 }

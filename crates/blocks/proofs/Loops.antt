@@ -1,18 +1,17 @@
 -- Tests over the elements of a list as a loop makes them: what a turn shows, and what the end of the loop shows. In each law X is what
 -- the whole list gives, and what is left of it is what the rest from index i on gives. Assumes nothing.
 use mathlib.Core.Path.{◌≡◌, ap, ◌∙◌}
-use mathlib.Core.Bool.{Bool, true, false, cond, ◌&&◌, ◌||◌}
+use mathlib.Core.Bool.{Bool, true, false, ◌&&◌}
 use mathlib.Core.List.{List}
-use Prim.Native.Nat.{ℕ, suc, ◌+◌, ◌≤◌, ◌<◌}
+use Prim.Native.Nat.{ℕ, ◌+◌, ◌≤◌, ◌<◌}
 use native.Mathlib.Numerals.{add-one}
-use native.Mathlib.Omega.{arith}
 use lib.ListN.{length, take, drop, get_or, drop_of_length-le}
 use lib.Seq.{drop-cons, take-suc}
-use Rattle.model.specs.Lists.{all, any, all_tails, all_heads, find}
+use Rattle.model.specs.Lists.{all, all_tails, all_heads}
 
 module _ {A : Type 0} where
   -- every element passes
-  pub all_step : (p : A → Bool) (l : List A) (i : ℕ) (d : A) → i < length l → all p (drop i l) ≡ (p (get_or l i d) && all p (drop (i + 1) l))
+  all_step : (p : A → Bool) (l : List A) (i : ℕ) (d : A) → i < length l → all p (drop i l) ≡ (p (get_or l i d) && all p (drop (i + 1) l))
   unfolding all
   all_step p l i d h = rw (add-one, drop-cons l i d)
 
@@ -25,21 +24,6 @@ module _ {A : Type 0} where
   pub all_end : {X : Bool} (p : A → Bool) (l : List A) (i : ℕ) → length l ≤ i → X ≡ all p (drop i l) → X ≡ true
   unfolding all
   all_end p l i h e = e ∙ ap (all p) (drop_of_length-le l h)
-
-  -- some element passes
-  any_step : (p : A → Bool) (l : List A) (i : ℕ) (d : A) → i < length l → any p (drop i l) ≡ (p (get_or l i d) || any p (drop (i + 1) l))
-  unfolding any
-  any_step p l i d h = rw (add-one, drop-cons l i d)
-
-  pub any_more : {X : Bool} (p : A → Bool) (l : List A) (i : ℕ) (d : A) → i < length l → X ≡ any p (drop i l) → p (get_or l i d) ≡ false → X ≡ any p (drop (i + 1) l)
-  any_more p l i d h e t = e ∙ any_step p l i d h ∙ ap (λ (b : Bool). b || any p (drop (i + 1) l)) t
-
-  pub any_hit : {X : Bool} (p : A → Bool) (l : List A) (i : ℕ) (d : A) → i < length l → X ≡ any p (drop i l) → p (get_or l i d) ≡ true → X ≡ true
-  any_hit p l i d h e t = e ∙ any_step p l i d h ∙ ap (λ (b : Bool). b || any p (drop (i + 1) l)) t
-
-  pub any_end : {X : Bool} (p : A → Bool) (l : List A) (i : ℕ) → length l ≤ i → X ≡ any p (drop i l) → X ≡ false
-  unfolding any
-  any_end p l i h e = e ∙ ap (any p) (drop_of_length-le l h)
 
   -- every element passes with those after it
   tails_step : (f : A → List A → Bool) (l : List A) (i : ℕ) (d : A) → i < length l
@@ -74,24 +58,3 @@ module _ {A : Type 0} where
   pub heads_end : {X : Bool} (f : List A → A → Bool) (s l : List A) (i : ℕ) → length l ≤ i → X ≡ all_heads f s (drop i l) → X ≡ true
   unfolding all_heads
   heads_end f s l i h e = e ∙ ap (all_heads f s) (drop_of_length-le l h)
-
-  -- the first that passes
-  find_step : (p : A → Bool) (l : List A) (i : ℕ) (d : A) → i < length l → find p (drop i l) ≡ cond (p (get_or l i d)) 0 (suc (find p (drop (i + 1) l)))
-  unfolding find
-  find_step p l i d h = rw (add-one, drop-cons l i d)
-
-  pub find_pass : {X : ℕ} (p : A → Bool) (l : List A) (i : ℕ) (d : A) → i < length l → X ≡ i + find p (drop i l) → p (get_or l i d) ≡ false → X ≡ (i + 1) + find p (drop (i + 1) l)
-  find_pass p l i d h e t =
-      let s = find_step p l i d h ∙ ap (λ (b : Bool). cond b 0 (suc (find p (drop (i + 1) l)))) t in
-      omega arith
-
-  pub find_hit : {X : ℕ} (p : A → Bool) (l : List A) (i : ℕ) (d : A) → i < length l → X ≡ i + find p (drop i l) → p (get_or l i d) ≡ true → X ≡ i
-  find_hit p l i d h e t =
-      let s = find_step p l i d h ∙ ap (λ (b : Bool). cond b 0 (suc (find p (drop (i + 1) l)))) t in
-      omega arith
-
-  pub find_end : {X : ℕ} (p : A → Bool) (l : List A) (i : ℕ) → length l ≤ i → X ≡ i + find p (drop i l) → X ≡ i
-  unfolding find
-  find_end p l i h e =
-      let s = ap (find p) (drop_of_length-le l h) in
-      omega arith

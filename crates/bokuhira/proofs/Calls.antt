@@ -34,21 +34,12 @@ coded_long bs e = eqb-true (length bs) 2881 (and_left (eqb (length bs) 2881) _ e
 
 -- ---- the bytes after a reply
 -- it refuses
-pub kept : (n m : ℕ) (bs cs : List ℕ) → n ≡ m → (n ≡ 0 → ⊥) → (n ≡ 255 → ⊥) → (n ≡ m) × (bs ≡ cond (refused m) bs cs)
-unfolding refused
-kept n m bs cs e h k = (e, rw (← e, ne_eqb _ _ h, ne_eqb _ _ k))
+pub kept : (n m : ℕ) (bs cs : List ℕ) (t : Bool) → n ≡ m → t ≡ refused n → t ≡ true → (n ≡ m) × (bs ≡ cond (refused m) bs cs)
+kept n m bs cs t e f h = (e, rw (← e, ← f, h))
 
 -- it does not
-pub stored : (n m : ℕ) (bs cs now : List ℕ) → n ≡ m → refused n ≡ false → now ≡ cs → (n ≡ m) × (now ≡ cond (refused m) bs cs)
-stored n m bs cs now e h k = (e, rw (← e, h) k)
-
-pub done_stands : (n : ℕ) → n ≡ 0 → refused n ≡ false
-unfolding refused
-done_stands n e = rw e
-
-pub more_stands : (n : ℕ) → n ≡ 255 → refused n ≡ false
-unfolding refused
-more_stands n e = rw e
+pub stored : (n m : ℕ) (bs cs now : List ℕ) (t : Bool) → n ≡ m → t ≡ refused n → t ≡ false → now ≡ cs → (n ≡ m) × (now ≡ cond (refused m) bs cs)
+stored n m bs cs now t e f h k = (e, rw (← e, ← f, h) k)
 
 -- ---- a call
 -- of bytes that encode no state

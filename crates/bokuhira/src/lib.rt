@@ -18,15 +18,16 @@ fn device(state: &[u8]) -> Device
     requires { encodes state.now ≡ true }
     ensures { result.state ≡ state_from state.now }
 {
-    let s = encoding::load(state);
-    Device { state: s }
+    Device {
+        state: encoding::load(state),
+    }
 }
 
 /// Whether the bytes are as many as a state has.
 fn sized(state: &[u8]) -> bool
     ensures { result ≡ sized state.now }
 {
-    state.len() == 2881
+    state.len() == encoding::STATE
 }
 
 /// The device that a format starts from: of the state that the bytes say, or where they encode none, of a fresh one.
@@ -37,8 +38,9 @@ fn starting(state: &[u8], g: Geometry) -> Device
     if encoding::encodes(state) {
         return device(state);
     }
-    let s = State::fresh(g);
-    Device { state: s }
+    Device {
+        state: State::fresh(g),
+    }
 }
 
 /// The answer's number of a reply; unless it refuses, its state is stored.
@@ -48,16 +50,12 @@ fn finish(state: &mut [u8], r: Reply) -> u8
     requires { length state.old ≡ 2881 }
     ensures { (result ≡ number r.answer) × (state.new ≡ cond (refused (number r.answer)) state.old (bytes_of r.device.state)) }
 {
-    let a = r.answer;
-    let n = answers::number(a);
-    if n != 0 {
-        if n != 255 {
-            return n;
-        }
+    let n = answers::number(r.answer);
+    if !answers::refused(n) {
+        // copied out: were the reply itself lent, a command's stack would be 2.6 KB deeper
+        let s = r.device.state;
+        encoding::store(state, &s);
     }
-    let d = r.device;
-    let s = d.state;
-    encoding::store(state, s);
     n
 }
 
@@ -109,13 +107,15 @@ pub fn bokuhira_recover(
         logical,
         planes,
     };
-    let s = State::fresh(g);
-    let d = Device { state: s };
+    let d = Device {
+        state: State::fresh(g),
+    };
     let r = d.recover(array, map, hold, g);
     finish(state, r)
 }
 
 /// Opens a change.
+// each command in full: of what a closure does to a slice that it borrows, who takes the closure could promise nothing
 pub fn bokuhira_begin(array: &[u8], map: &[u16], hold: &[u8], state: &mut [u8], id: u32) -> u8
     ensures { ◌≡◌ {A = Result} (record { answer = result; array = array.now; map = map.now; hold = hold.now; bytes = state.new }) (called (begin id) array.now map.now hold.now state.old) }
 {
@@ -223,13 +223,12 @@ pub fn bokuhira_read(
     if !encoding::encodes(state) {
         return 1;
     }
-    let a = device(state).read(array, map, hold, lpn);
-    let n = answers::number(a);
+    // a number, and a place to write to beside it: it is called from C
+    let n = answers::number(device(state).read(array, map, hold, lpn));
     if n != 0 {
         return n;
     }
-    let i = lpn as usize;
-    *at = map[i] as usize * Spare::PAGE;
+    *at = usize::from(map[usize::from(lpn)]) * Spare::PAGE;
     n
 }
 
@@ -262,8 +261,8 @@ pub fn bokuhira_class(page: &[u8], difference: &mut i32) -> u8
     if page.len() != Spare::PAGE {
         return 3;
     }
-    let c = page::classify(page);
-    match c {
+    // numbers, and a place to write to beside them: it is called from C
+    match page::classify(page) {
         Class::Erased => 0,
         Class::Whole => 1,
         Class::Torn(d) => {

@@ -14,14 +14,8 @@ ghost use Rattle.change.specs.Changes.{next_of, data_spare, done, HeldDone, Taki
 
 use model::{Geometry, Map, Place, Plane, Spare, State};
 
-/// Some of the available blocks: the first n numbers.
-#[derive(Clone, Copy)]
-struct Picked {
-    list: [u8; 3],
-    n: usize,
-}
-
 /// Whether block b is of the other plane than the last.
+#[tactic(auto, unfolding(model::specs::Zones::other_plane, model::specs::Zones::is_odd))]
 fn is_other(last: Plane, b: u8) -> bool
     ensures { result ≡ other_plane last b }
 {
@@ -32,25 +26,19 @@ fn is_other(last: Plane, b: u8) -> bool
     }
 }
 
-/// Those of the first n blocks that are of the other plane than the last.
-fn others(last: Plane, bs: [u8; 3], n: usize) -> Picked
-    requires { n ≤ 3 }
-    ensures { (result.n ≤ 3) × (take result.n result.list ≡ those (other_plane last) (take n bs)) }
+/// Those of the available blocks that are of the other plane than the last, put into the room that is lent.
+fn others<'a>(last: Plane, available: &[u8], room: &'a mut [u8; 3]) -> &'a [u8]
+    requires { length available.now ≤ 3 }
+    ensures { result.now ≡ those (other_plane last) available.now }
 {
-    let mut list = [0u8; 3];
-    let mut m: usize = 0;
-    let mut i: usize = 0;
-    while i < n {
-        let b = bs[i];
-        if !is_other(last, b) {
-            i += 1;
-            continue;
+    let mut n: usize = 0;
+    for b in available {
+        if is_other(last, *b) {
+            room[n] = *b;
+            n += 1;
         }
-        list[m] = b;
-        m += 1;
-        i += 1;
     }
-    Picked { list, n: m }
+    &room[..n]
 }
 
 /// The page to be programmed next: on two planes of the other plane than the last, if that has clean pages.
@@ -59,20 +47,17 @@ pub fn next_page(s: State, array: &[u8]) -> usize
     ensures { result ≡ next_of s array.now }
 {
     let z = s.zones;
-    let a = z.available;
-    let n = z.na as usize;
+    let available = &z.available[..z.na as usize];
     let pages = s.geometry.pages as usize;
     if s.geometry.planes != 2 {
-        return flash::next_in(array, pages, &a[..n]);
+        return flash::next_in(array, pages, available);
     }
-    let last = s.last;
-    let other = others(last, a, n);
-    let list = other.list;
-    let m = other.n;
-    if flash::clean_short(array, pages, &list[..m], 1) {
-        return flash::next_in(array, pages, &a[..n]);
+    let mut room = [0u8; 3];
+    let other = others(s.last, available, &mut room);
+    if flash::clean_short(array, pages, other, 1) {
+        return flash::next_in(array, pages, available);
     }
-    flash::next_in(array, pages, &list[..m])
+    flash::next_in(array, pages, other)
 }
 
 /// Whether the clean available pages are no more than a block has.
@@ -81,10 +66,9 @@ pub fn zone_short(s: State, array: &[u8]) -> bool
     ensures { result ≡ leb (clean_in array.now s.geometry.pages (available_of s.zones)) s.geometry.pages }
 {
     let z = s.zones;
-    let a = z.available;
-    let n = z.na as usize;
+    let available = &z.available[..z.na as usize];
     let pages = s.geometry.pages as usize;
-    flash::clean_short(array, pages, &a[..n], pages + 1)
+    flash::clean_short(array, pages, available, pages + 1)
 }
 
 /// The kind of a page that writes or drops its logical page.
@@ -92,19 +76,18 @@ fn kind_of(drop: bool) -> u8
     ensures { result ≡ page_kind drop }
 {
     if drop {
-        return Spare::DROP_KIND;
+        Spare::DROP_KIND
+    } else {
+        Spare::DATA_KIND
     }
-    Spare::DATA_KIND
 }
 
 /// Reserved of the n-th page of a transaction: on two planes its number, else 0.
+#[tactic(auto, unfolding(model::specs::Transactions::number_of))]
 fn number_of(g: Geometry, n: u8) -> u8
     ensures { result ≡ number_of g n }
 {
-    if g.planes != 2 {
-        return 0;
-    }
-    n
+    if g.planes == 2 { n } else { 0 }
 }
 
 /// The spare area of a page that writes or drops a logical page.
@@ -127,8 +110,7 @@ pub fn program_held(array: &mut [u8], k: usize, hold: &[u8], i: usize, s: Spare)
     ensures { Programmed array.old k (page_bytes (held_at i hold.now) s) array.new }
 {
     let a = Spare::DATA * i;
-    let e = a + Spare::DATA;
-    flash::program_at(array, k, &hold[a..e], s);
+    flash::program_at(array, k, &hold[a..a + Spare::DATA], s);
 }
 
 /// Holds a page in place i.
@@ -137,26 +119,18 @@ pub fn hold_page(hold: &mut [u8], i: usize, data: &[u8])
     ensures { hold.new ≡ hold_with hold.old i «data».now }
 {
     let a = Spare::DATA * i;
-    let e = a + Spare::DATA;
-    let n = octets::copy(data, &mut hold[a..e]);
+    hold[a..a + Spare::DATA].copy_from_slice(data);
 }
 
-/// Enters the first n pages of a place in the map, in write order.
-pub fn enter(
-    map: &mut [u16],
-    lpns: [u16; Place::PAGES],
-    ppns: [u16; Place::PAGES],
-    drops: [bool; Place::PAGES],
-    n: usize,
-)
-    requires { (n ≤ 64) × (all (λ (l : ℕ). ltb l (length map.old)) (take n lpns) ≡ true) }
-    ensures { map.new ≡ entered map.old lpns ppns drops n }
+/// Enters the pages of a place in the map, in write order.
+pub fn enter(map: &mut [u16], p: &Place)
+    requires { (p.now.count ≤ 64) × (all (λ (l : ℕ). ltb l (length map.old)) (take p.now.count p.now.lpns) ≡ true) }
+    ensures { map.new ≡ entered map.old p.now.lpns p.now.ppns p.now.drops p.now.count }
 {
-    let mut i: usize = 0;
-    while i < n {
-        let lpn = lpns[i] as usize;
-        map[lpn] = Map::leads(drops[i], ppns[i]);
-        i += 1;
+    let n = p.count as usize;
+    // by index: a `zip` of three arrays is a pair of pairs
+    for (i, lpn) in p.lpns[..n].iter().enumerate() {
+        map[*lpn as usize] = Map::leads(p.drops[i], p.ppns[i]);
     }
 }
 
@@ -166,22 +140,20 @@ pub fn write_held(
     array: &mut [u8],
     hold: &[u8],
     i: usize,
-    p: Place,
+    p: &Place,
     k: usize,
     cnt: u16,
     ver: u32,
 )
-    requires { (k * 528 + 528 ≤ length array.old) × ((length hold.now ≡ 4096) × ((i < 8) × (p.count ≤ 64))) }
-    ensures { HeldDone g array.old k (held_at i hold.now) p cnt ver array.new }
+    requires { (k * 528 + 528 ≤ length array.old) × ((length hold.now ≡ 4096) × ((i < 8) × (p.now.count ≤ 64))) }
+    ensures { HeldDone g array.old k (held_at i hold.now) p.now cnt ver array.new }
 {
     let n = p.count as usize;
     if n == 0 {
         return;
     }
-    let lpns = p.lpns;
-    let drops = p.drops;
     let number = number_of(g, p.count);
-    let spare = data_spare(drops[n - 1], lpns[n - 1], cnt, p.id, ver, number);
+    let spare = data_spare(p.drops[n - 1], p.lpns[n - 1], cnt, p.id, ver, number);
     program_held(array, k, hold, i, spare);
 }
 
@@ -190,10 +162,7 @@ fn with_written(s: State, i: usize, q: Place, had: u8, k: usize) -> State
     requires { (i < 8) × (0 < s.geometry.pages) }
     ensures { result ≡ with_place (cond (eqb had 0) s (with_last s (k / s.geometry.pages))) i q }
 {
-    if had == 0 {
-        return places::with_place(s, i, q);
-    }
-    if s.geometry.planes != 2 {
+    if had == 0 || s.geometry.planes != 2 {
         return places::with_place(s, i, q);
     }
     let t = places::with_last(s, k / s.geometry.pages as usize);
@@ -241,10 +210,9 @@ pub fn write_in(
     ensures { ◌≡◌ {A = Outcome} (record { answer = 0; world = record { array = array.new; map = map.now; hold = hold.new; state = result } }) (done (write_plan i (get_or s.places i no_place) lpn drop «data».now) (record { array = array.old; map = map.now; hold = hold.old; state = s })) }
 {
     let g = s.geometry;
-    let ps = s.places;
-    let p = ps[i];
+    let p = s.places[i];
     let k = next_page(s, array);
-    write_held(g, array, hold, i, p, k, 0, 0);
+    write_held(g, array, hold, i, &p, k, 0, 0);
     hold_page(hold, i, data);
     let q = places::written(p, k as u16, lpn, drop);
     with_written(s, i, q, p.count, k)
@@ -257,8 +225,7 @@ pub fn put_lone(array: &mut [u8], map: &mut [u16], k: usize, lpn: u16, v: u32, d
 {
     let spare = data_spare(false, lpn, 1, 0, v, 0);
     flash::program_at(array, k, data, spare);
-    let at = lpn as usize;
-    map[at] = k as u16;
+    map[lpn as usize] = k as u16;
 }
 
 /// Programs a lone write.
@@ -285,16 +252,12 @@ pub fn mark(s: State, array: &mut [u8], map: &mut [u16], hold: &[u8], i: usize) 
     ensures { ◌≡◌ {A = Outcome} (record { answer = 0; world = record { array = array.new; map = map.new; hold = hold.now; state = result } }) (done (mark_plan i (get_or s.places i no_place)) (record { array = array.old; map = map.old; hold = hold.now; state = s })) }
 {
     let g = s.geometry;
-    let ps = s.places;
-    let p = ps[i];
+    let mut p = s.places[i];
     let n = p.count as usize;
     let k = next_page(s, array);
     let v = s.version + 1;
-    write_held(g, array, hold, i, p, k, p.count as u16, v);
-    let lpns = p.lpns;
-    let mut ppns = p.ppns;
-    ppns[n - 1] = k as u16;
-    let drops = p.drops;
-    enter(map, lpns, ppns, drops, n);
+    write_held(g, array, hold, i, &p, k, p.count as u16, v);
+    p.ppns[n - 1] = k as u16;
+    enter(map, &p);
     with_marked(s, i, v, k)
 }

@@ -1,5 +1,6 @@
 // The eleven commands. A device goes in and comes back, with the array, the map and the hold lent beside it.
 // Nothing is required of a caller: whatever is handed in, a command answers as document 01 (docs/PAPERS.md) says.
+// Array, map and hold are lent one by one and not as one struct: `&` or `&mut` says which of them a command may change.
 #![tactic(auto)]
 
 ghost use Rattle.std.specs.Prelude.{◌≡◌};
@@ -28,11 +29,9 @@ pub struct Reply {
 fn strode(t: Stride) -> Reply
     ensures { result ≡ replied t.answer t.state }
 {
-    let answer = t.answer;
-    let state = t.state;
     Reply {
-        answer,
-        device: Device { state },
+        answer: t.answer,
+        device: Device { state: t.state },
     }
 }
 

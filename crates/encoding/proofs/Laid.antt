@@ -5,9 +5,9 @@ use mathlib.Core.List.{List, [], ◌∷◌, ◌++◌, map, append_assoc, append-
 use Prim.Native.Nat.{ℕ, ◌+◌, ◌≤◌, ◌<◌}
 use native.Mathlib.Numerals.{add-one}
 use native.Mathlib.Omega.{arith}
-use native.Mathlib.Nat.{le_refl}
-use lib.ListN.{length, take, drop, set, get_or, length-append, length-map, length-take, length-set, get_or-map, take-append-drop, drop_of_length-le}
+use lib.ListN.{length, take, drop, set, get_or, length-append, length-map, length-set, get_or-map, take-append-drop, drop_of_length-le}
 use lib.Seq.{take-suc, take_all, set_split, take_at, drop_at, drop-drop, length-take-le, sets, length-sets, sets-eq}
+use borrow.Rule.Slice.PartMut.{put_mid}
 use mir.Val.{bool_byte}
 use Rattle.model.specs.Lists.{splice}
 use Rattle.arrays.specs.Splice.{length_splice}
@@ -74,16 +74,20 @@ laid_by l k v e h f = rw f (laid_one l k v e h)
 pub laid_sets : {xs now : List ℕ} {a : ℕ} (ys : List ℕ) → now ≡ sets xs a ys → a + length ys ≤ length xs → Laid xs a (length ys) ys now
 laid_sets {xs} {now} {a} ys e h = record { long = refl; fits = h; same = ap length e ∙ length-sets xs a ys; is = e ∙ unfold splice in (sets-eq ys xs a h ∙ append_assoc (take a xs) ys _) }
 
--- numbers copied over a part of as many, zs after it
-pub laid_copied : (xs ys zs : List ℕ) (a : ℕ) → a + length ys ≤ length xs → zs ≡ take (length ys) ys ++ drop (length ys) (take (length ys) (drop a xs))
-    → Laid xs a (length ys) ys (take a xs ++ (zs ++ drop (length ys) (drop a xs)))
-laid_copied xs ys zs a h e = record { long = refl; fits = h; same = ap length is ∙ length_splice xs ys a (length ys) (omega arith); is = is }
-  where
-    all : zs ≡ ys
-    all = e ∙ rw (take_all (length ys) ys (le_refl (length ys)), drop_of_length-le (take (length ys) (drop a xs)) {i = length ys} (omega (arith, length-take (length ys) (drop a xs)))) (append-nil ys)
+pub laid_more : {xs : List ℕ} {a n : ℕ} {ys now next : List ℕ} → Laid xs a n ys now → (k : ℕ) (zs : List ℕ) → next ≡ sets now k zs → k ≡ a + n → k + length zs ≤ length xs → Laid xs a (n + length zs) (ys ++ zs) next
+laid_more l k zs f e h = let o = l.same in laid_join l (laid_sets zs f (omega arith)) e
 
-    is : take a xs ++ (zs ++ drop (length ys) (drop a xs)) ≡ splice xs a (length ys) ys
-    is = unfold splice in (rw (all, drop-drop))
+-- numbers copied over a part of as many
+over : (xs ys zs : List ℕ) (a n : ℕ) → zs ≡ ys → put_mid a n xs zs ≡ splice xs a n ys
+unfolding splice
+over xs ys zs a n e = rw (e, drop-drop)
+
+pub laid_copied : {xs : List ℕ} {a n : ℕ} {ys now : List ℕ} → Laid xs a n ys now → (k m : ℕ) (zs : List ℕ) {new : List ℕ} → new ≡ zs → length zs ≡ m → k ≡ a + n → k + m ≤ length xs
+    → Laid xs a (n + m) (ys ++ zs) (put_mid k m now new)
+laid_copied {xs} {a} {n} {ys} {now} l k m zs {new} f g e h =
+    let o = l.same in
+    let is = over now zs new k m f in
+    laid_join l (record { long = g; fits = omega arith; same = ap length is ∙ length_splice now zs k m (omega arith); is = is }) e
 
 -- the whole list
 all_of : (xs ys : List ℕ) (n : ℕ) → length xs ≤ 0 + n → splice xs 0 n ys ≡ ys

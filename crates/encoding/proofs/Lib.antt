@@ -1,5 +1,5 @@
 pub mod Laid
-pub mod Taken
 pub mod Coded
 pub mod Placed
 pub mod Read
+pub mod Taken

@@ -10,54 +10,60 @@
 
 ghost use Rattle.std.specs.Prelude.{◌≡◌, ◌+◌, ◌*◌, ◌≤◌, ◌<◌, length};
 ghost use Rattle.model.specs.Lists.{part};
-ghost use Rattle.model.specs.Bytes.{bytes16, bytes32};
+ghost use Rattle.model.specs.Bytes.{bytes16, bytes32, words};
 ghost use Rattle.encoding.specs.Encoding.{zones_from, work_from, plane_from, drops_from, place_from, places_in, state_from, work_coded, drops_coded, places_coded, encodes, each, geometry_bytes, zone_bytes, kind_of, stride_of, plane_byte, drop_bytes, place_bytes, bytes_of, Laid};
 
 use model::{Geometry, Place, Plane, State, Work, Zones};
 
+/// The bytes of a state.
+pub const STATE: usize = 2881;
+
+/// Where the kind of the work under way stands, its stride number and the last plane.
+const KIND: usize = 277;
+
+const STRIDE: usize = 278;
+
+const LAST: usize = 280;
+
+/// Where the places begin, and the bytes of each.
+const PLACES: usize = 281;
+
+const PLACE: usize = 325;
+
+/// Where the drops of a place begin within it.
+const DROPS: usize = 261;
+
 /// Whether a kind of work and a stride number go together.
+#[tactic(auto, unfolding(crate::specs::Encoding::work_coded))]
 fn work_coded(kind: u8, stride: u16) -> bool
     ensures { result ≡ work_coded kind stride }
 {
-    if kind == 1 {
-        return true;
+    match kind {
+        1 | 2 => true,
+        0 | 3 => stride == 0,
+        _ => false,
     }
-    if kind == 2 {
-        return true;
-    }
-    if stride != 0 {
-        return false;
-    }
-    if kind == 0 {
-        return true;
-    }
-    kind == 3
 }
 
-/// Whether each of the 64 bytes from `at` on is 0 or 1. The loop has no other way out, so many bytes are taken at once.
+/// Whether each of the 64 bytes from `at` on is 0 or 1. The fold looks at all of them, so many bytes are taken at once.
 fn drops_coded(from: &[u8], at: usize) -> bool
     requires { at + 64 ≤ length from.now }
     ensures { result ≡ drops_coded (part at 64 from.now) }
 {
-    let mut coded = true;
-    let mut i: usize = 0;
-    while i < Place::PAGES {
-        coded = coded & (from[at + i] < 2);
-        i += 1;
-    }
-    coded
+    from[at..at + Place::PAGES]
+        .iter()
+        .fold(true, |coded, x| coded & (*x < 2))
 }
 
 /// Whether every drop is 0 or 1, of all places.
+// of a slice, here and below, with its length in the clause and not in its type: so C lends the bytes
 fn places_coded(from: &[u8]) -> bool
     requires { length from.now ≡ 2881 }
     ensures { result ≡ places_coded from.now 8 }
 {
     let mut coded = true;
-    let mut place: usize = 0;
-    while place < State::PLACES {
-        coded = coded & drops_coded(from, 281 + 325 * place + 261);
-        place += 1;
+    for place in 0..State::PLACES {
+        coded &= drops_coded(from, PLACES + PLACE * place + DROPS);
     }
     coded
 }
@@ -66,37 +72,43 @@ fn places_coded(from: &[u8]) -> bool
 pub fn encodes(from: &[u8]) -> bool
     ensures { result ≡ encodes from.now }
 {
-    if from.len() != 2881 {
-        return false;
-    }
-    if !work_coded(from[277], page::word16(from, 278)) {
-        return false;
-    }
-    if from[280] > 2 {
-        return false;
-    }
-    places_coded(from)
+    from.len() == STATE
+        && work_coded(from[KIND], page::word16(from, STRIDE))
+        && from[LAST] <= 2
+        && places_coded(from)
 }
 
-/// Fills the list with the bytes from `at` on.
-fn load_bytes(from: &[u8], at: usize, list: &mut [u8])
-    requires { at + length list.old ≤ length from.now }
-    ensures { list.new ≡ part at (length list.old) from.now }
+/// The N bytes from `at` on.
+fn load_bytes<const N: usize>(from: &[u8], at: usize) -> [u8; N]
+    requires { at + N ≤ length from.now }
+    ensures { result ≡ part at N from.now }
 {
-    let end = at + list.len();
-    let n = octets::copy(&from[at..end], list);
+    let mut list = [0u8; N];
+    list.copy_from_slice(&from[at..at + N]);
+    list
 }
 
-/// Fills the list with the drops from `at` on.
-fn load_drops(from: &[u8], at: usize, list: &mut [bool])
-    requires { at + length list.old ≤ length from.now }
-    ensures { list.new ≡ drops_from (part at (length list.old) from.now) }
+/// The N numbers of 2 bytes from `at` on.
+fn load_halves<const N: usize>(from: &[u8], at: usize) -> [u16; N]
+    requires { at + 2 * N ≤ length from.now }
+    ensures { result ≡ words (part at (2 * N) from.now) }
 {
-    let mut i: usize = 0;
-    while i < list.len() {
-        list[i] = from[at + i] == 1;
-        i += 1;
+    let mut list = [0u16; N];
+    page::words16(from, at, &mut list);
+    list
+}
+
+/// The drops from `at` on.
+fn load_drops(from: &[u8], at: usize) -> [bool; Place::PAGES]
+    requires { at + 64 ≤ length from.now }
+    ensures { result ≡ drops_from (part at 64 from.now) }
+{
+    // a loop: by an array's `map` a load takes six times as long
+    let mut drops = [false; Place::PAGES];
+    for (i, drop) in drops.iter_mut().enumerate() {
+        *drop = from[at + i] == 1;
     }
+    drops
 }
 
 /// The zones among the bytes.
@@ -104,50 +116,40 @@ fn load_zones(from: &[u8]) -> Zones
     requires { length from.now ≡ 2881 }
     ensures { result ≡ zones_from from.now }
 {
-    let mut available = [0u8; 3];
-    load_bytes(from, 8, &mut available);
-    let mut unavailable = [0u8; 126];
-    load_bytes(from, 12, &mut unavailable);
-    let mut free = [0u8; 126];
-    load_bytes(from, 139, &mut free);
     Zones {
-        available,
+        available: load_bytes(from, 8),
         na: from[11],
-        unavailable,
+        unavailable: load_bytes(from, 12),
         nu: from[138],
-        free,
+        free: load_bytes(from, 139),
         nf: from[265],
         pointer: from[266],
     }
 }
 
 /// The work of a kind and a stride number.
+#[tactic(auto, unfolding(crate::specs::Encoding::work_from))]
 fn load_work(kind: u8, stride: u16) -> Work
     ensures { result ≡ work_from kind stride }
 {
-    if kind == 1 {
-        return Work::Format(stride);
+    match kind {
+        1 => Work::Format(stride),
+        2 => Work::Checkpoint(stride),
+        3 => Work::Reclaim,
+        _ => Work::Idle,
     }
-    if kind == 2 {
-        return Work::Checkpoint(stride);
-    }
-    if kind == 3 {
-        return Work::Reclaim;
-    }
-    Work::Idle
 }
 
 /// The plane that a byte says.
+#[tactic(auto, unfolding(crate::specs::Encoding::plane_from))]
 fn load_plane(byte: u8) -> Plane
     ensures { result ≡ plane_from byte }
 {
-    if byte == 1 {
-        return Plane::Even;
+    match byte {
+        1 => Plane::Even,
+        2 => Plane::Odd,
+        _ => Plane::Neither,
     }
-    if byte == 2 {
-        return Plane::Odd;
-    }
-    Plane::Neither
 }
 
 /// Place i among the bytes.
@@ -155,19 +157,13 @@ fn load_place(from: &[u8], i: usize) -> Place
     requires { (length from.now ≡ 2881) × (i < 8) }
     ensures { result ≡ place_from from.now i }
 {
-    let at = 281 + 325 * i;
-    let mut lpns = [0u16; Place::PAGES];
-    page::words16(from, at + 5, &mut lpns);
-    let mut ppns = [0u16; Place::PAGES];
-    page::words16(from, at + 133, &mut ppns);
-    let mut drops = [false; Place::PAGES];
-    load_drops(from, at + 261, &mut drops);
+    let at = PLACES + PLACE * i;
     Place {
         id: page::word32(from, at),
         count: from[at + 4],
-        lpns,
-        ppns,
-        drops,
+        lpns: load_halves(from, at + 5),
+        ppns: load_halves(from, at + 133),
+        drops: load_drops(from, at + DROPS),
     }
 }
 
@@ -176,6 +172,7 @@ fn load_places(from: &[u8]) -> [Place; State::PLACES]
     requires { length from.now ≡ 2881 }
     ensures { result ≡ places_in from.now 8 }
 {
+    // one by one: by `array::from_fn` a call's stack is 8.8 KB deeper
     [
         load_place(from, 0),
         load_place(from, 1),
@@ -193,52 +190,22 @@ pub fn load(from: &[u8]) -> State
     requires { length from.now ≡ 2881 }
     ensures { result ≡ state_from from.now }
 {
-    let geometry = Geometry {
-        blocks: page::word16(from, 0),
-        pages: page::word16(from, 2),
-        logical: page::word16(from, 4),
-        planes: page::word16(from, 6),
-    };
-    let zones = load_zones(from);
-    let work = load_work(from[277], page::word16(from, 278));
-    let last = load_plane(from[280]);
-    let places = load_places(from);
     State {
-        geometry,
-        zones,
+        geometry: Geometry {
+            blocks: page::word16(from, 0),
+            pages: page::word16(from, 2),
+            logical: page::word16(from, 4),
+            planes: page::word16(from, 6),
+        },
+        zones: load_zones(from),
         version: page::word32(from, 267),
         checkpoint: page::word32(from, 271),
         front: from[275],
         first: from[276],
-        work,
-        last,
-        places,
+        work: load_work(from[KIND], page::word16(from, STRIDE)),
+        last: load_plane(from[LAST]),
+        places: load_places(from),
     }
-}
-
-/// Puts a number of 2 bytes at a place.
-fn put_half(to: &mut [u8], at: usize, x: u16)
-    requires { at + 2 ≤ length to.old }
-    ensures { Laid to.old at 2 (bytes16 x) to.new }
-{
-    page::put16(to, at, x);
-}
-
-/// Puts a number of 4 bytes at a place.
-fn put_word(to: &mut [u8], at: usize, x: u32)
-    requires { at + 4 ≤ length to.old }
-    ensures { Laid to.old at 4 (bytes32 x) to.new }
-{
-    page::put32(to, at, x);
-}
-
-/// Puts bytes from `at` on.
-fn put_bytes(to: &mut [u8], at: usize, list: &[u8])
-    requires { at + length list.now ≤ length to.old }
-    ensures { Laid to.old at (length list.now) list.now to.new }
-{
-    let end = at + list.len();
-    let n = octets::copy(list, &mut to[at..end]);
 }
 
 /// Puts numbers of 2 bytes from `at` on.
@@ -246,10 +213,8 @@ fn put_halves(to: &mut [u8], at: usize, list: &[u16])
     requires { at + 2 * length list.now ≤ length to.old }
     ensures { Laid to.old at (2 * length list.now) (each bytes16 list.now) to.new }
 {
-    let mut i: usize = 0;
-    while i < list.len() {
-        put_half(to, at + 2 * i, list[i]);
-        i += 1;
+    for (i, x) in list.iter().enumerate() {
+        page::put16(to, at + 2 * i, *x);
     }
 }
 
@@ -258,10 +223,8 @@ fn put_drops(to: &mut [u8], at: usize, list: &[bool])
     requires { at + length list.now ≤ length to.old }
     ensures { Laid to.old at (length list.now) (drop_bytes list.now) to.new }
 {
-    let mut i: usize = 0;
-    while i < list.len() {
-        to[at + i] = list[i] as u8;
-        i += 1;
+    for (i, drop) in list.iter().enumerate() {
+        to[at + i] = u8::from(*drop);
     }
 }
 
@@ -270,22 +233,22 @@ fn put_geometry(to: &mut [u8], g: Geometry)
     requires { length to.old ≡ 2881 }
     ensures { Laid to.old 0 8 (geometry_bytes g) to.new }
 {
-    put_half(to, 0, g.blocks);
-    put_half(to, 2, g.pages);
-    put_half(to, 4, g.logical);
-    put_half(to, 6, g.planes);
+    page::put16(to, 0, g.blocks);
+    page::put16(to, 2, g.pages);
+    page::put16(to, 4, g.logical);
+    page::put16(to, 6, g.planes);
 }
 
 /// Puts the zones among the bytes.
-fn put_zones(to: &mut [u8], z: Zones)
+fn put_zones(to: &mut [u8], z: &Zones)
     requires { length to.old ≡ 2881 }
-    ensures { Laid to.old 8 259 (zone_bytes z) to.new }
+    ensures { Laid to.old 8 259 (zone_bytes z.now) to.new }
 {
-    put_bytes(to, 8, &z.available);
+    to[8..11].copy_from_slice(&z.available);
     to[11] = z.na;
-    put_bytes(to, 12, &z.unavailable);
+    to[12..138].copy_from_slice(&z.unavailable);
     to[138] = z.nu;
-    put_bytes(to, 139, &z.free);
+    to[139..265].copy_from_slice(&z.free);
     to[265] = z.nf;
     to[266] = z.pointer;
 }
@@ -307,14 +270,13 @@ fn stride_of(work: Work) -> u16
     ensures { result ≡ stride_of work }
 {
     match work {
-        Work::Idle => 0,
-        Work::Format(k) => k,
-        Work::Checkpoint(k) => k,
-        Work::Reclaim => 0,
+        Work::Format(k) | Work::Checkpoint(k) => k,
+        Work::Idle | Work::Reclaim => 0,
     }
 }
 
 /// The byte of a plane.
+// by match, as `kind_of`: the numbers are of the bytes, and the types do not know them
 fn plane_byte(plane: Plane) -> u8
     ensures { result ≡ plane_byte plane }
 {
@@ -326,49 +288,41 @@ fn plane_byte(plane: Plane) -> u8
 }
 
 /// Puts place i among the bytes.
-fn put_place(to: &mut [u8], i: usize, p: Place)
+fn put_place(to: &mut [u8], i: usize, p: &Place)
     requires { (length to.old ≡ 2881) × (i < 8) }
-    ensures { Laid to.old (281 + 325 * i) 325 (place_bytes p) to.new }
+    ensures { Laid to.old (281 + 325 * i) 325 (place_bytes p.now) to.new }
 {
-    let at = 281 + 325 * i;
-    put_word(to, at, p.id);
+    let at = PLACES + PLACE * i;
+    page::put32(to, at, p.id);
     to[at + 4] = p.count;
     put_halves(to, at + 5, &p.lpns);
     put_halves(to, at + 133, &p.ppns);
-    put_drops(to, at + 261, &p.drops);
+    put_drops(to, at + DROPS, &p.drops);
 }
 
 /// Puts the places among the bytes.
-fn put_places(to: &mut [u8], places: [Place; State::PLACES])
+fn put_places(to: &mut [u8], places: &[Place; State::PLACES])
     requires { length to.old ≡ 2881 }
-    ensures { Laid to.old 281 2600 (each place_bytes places) to.new }
+    ensures { Laid to.old 281 2600 (each place_bytes places.now) to.new }
 {
-    let mut i: usize = 0;
-    while i < State::PLACES {
-        let p = places[i];
+    for (i, p) in places.iter().enumerate() {
         put_place(to, i, p);
-        i += 1;
     }
 }
 
 /// Puts a state as bytes.
-pub fn store(to: &mut [u8], s: State)
+pub fn store(to: &mut [u8], s: &State)
     requires { length to.old ≡ 2881 }
-    ensures { to.new ≡ bytes_of s }
+    ensures { to.new ≡ bytes_of s.now }
 {
-    let g = s.geometry;
-    put_geometry(to, g);
-    let z = s.zones;
-    put_zones(to, z);
-    put_word(to, 267, s.version);
-    put_word(to, 271, s.checkpoint);
+    put_geometry(to, s.geometry);
+    put_zones(to, &s.zones);
+    page::put32(to, 267, s.version);
+    page::put32(to, 271, s.checkpoint);
     to[275] = s.front;
     to[276] = s.first;
-    let w = s.work;
-    to[277] = kind_of(w);
-    put_half(to, 278, stride_of(w));
-    let last = s.last;
-    to[280] = plane_byte(last);
-    let ps = s.places;
-    put_places(to, ps);
+    to[KIND] = kind_of(s.work);
+    page::put16(to, STRIDE, stride_of(s.work));
+    to[LAST] = plane_byte(s.last);
+    put_places(to, &s.places);
 }

@@ -16,12 +16,12 @@ pub fn page_of(array: &[u8], k: usize) -> &[u8]
     requires { k * 528 + 528 ≤ length array.now }
     ensures { (result.now ≡ page_at array.now k) × (length result.now ≡ 528) }
 {
-    let a = k * Spare::PAGE;
-    let e = a + Spare::PAGE;
-    &array[a..e]
+    let at = k * Spare::PAGE;
+    &array[at..at + Spare::PAGE]
 }
 
 /// Whether page k is erased.
+#[tactic(auto, unfolding(model::specs::Page::blank_at))]
 pub fn is_blank(array: &[u8], k: usize) -> bool
     requires { k * 528 + 528 ≤ length array.now }
     ensures { result ≡ blank_at array.now k }
@@ -30,6 +30,7 @@ pub fn is_blank(array: &[u8], k: usize) -> bool
 }
 
 /// Whether page k is whole.
+#[tactic(auto, unfolding(model::specs::Page::whole_at))]
 pub fn is_whole(array: &[u8], k: usize) -> bool
     requires { k * 528 + 528 ≤ length array.now }
     ensures { result ≡ whole_at array.now k }
@@ -38,6 +39,7 @@ pub fn is_whole(array: &[u8], k: usize) -> bool
 }
 
 /// Whether page k is torn.
+#[tactic(auto, unfolding(model::specs::Page::torn_at))]
 pub fn is_torn(array: &[u8], k: usize) -> bool
     requires { k * 528 + 528 ≤ length array.now }
     ensures { result ≡ torn_at array.now k }
@@ -79,19 +81,17 @@ fn still_due(array: &[u8], pages: usize, b: usize, due: usize) -> usize
     ensures { result ≡ due - (pages - used_in array.now pages b) }
 {
     let first = b * pages;
-    let mut n = pages;
     let mut left = due;
-    while 0 < left {
-        if n == 0 {
-            return left;
+    for n in (0..pages).rev() {
+        if left == 0 {
+            return 0;
         }
-        n -= 1;
         if !is_blank(array, first + n) {
             return left;
         }
         left -= 1;
     }
-    0
+    left
 }
 
 /// The pages of block b up to and with its last that is not erased: the clean ones come after. They are what is left due of all its pages.
@@ -108,10 +108,8 @@ pub fn clean_short(array: &[u8], pages: usize, blocks: &[u8], least: usize) -> b
     ensures { result ≡ ltb (clean_in array.now pages blocks.now) least }
 {
     let mut due = least;
-    let mut i = 0;
-    while i < blocks.len() {
-        due = still_due(array, pages, wide(blocks[i]), due);
-        i += 1;
+    for b in blocks {
+        due = still_due(array, pages, usize::from(*b), due);
     }
     0 < due
 }
@@ -121,21 +119,12 @@ pub fn next_in(array: &[u8], pages: usize, blocks: &[u8]) -> usize
     requires { Within (length array.now) pages blocks.now }
     ensures { result ≡ next_in array.now pages blocks.now }
 {
-    let mut i = 0;
-    while i < blocks.len() {
-        let b = wide(blocks[i]);
+    for b in blocks {
+        let b = usize::from(*b);
         let used = used_in(array, pages, b);
         if used < pages {
             return b * pages + used;
         }
-        i += 1;
     }
     0
-}
-
-/// A byte as a number of the array's size.
-fn wide(x: u8) -> usize
-    ensures { result ≡ x }
-{
-    x as usize
 }

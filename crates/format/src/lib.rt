@@ -3,7 +3,7 @@
 
 ghost use Rattle.std.specs.Prelude.{◌≡◌, List, ℕ, ◌+◌, ◌<◌, length, replicate};
 ghost use Rattle.model.specs.Answers.{number};
-ghost use Rattle.model.specs.Geometry.{same_geometry, map_pages};
+ghost use Rattle.model.specs.Geometry.{map_pages};
 ghost use Rattle.model.specs.Frame.{fresh_state};
 ghost use Rattle.model.specs.Strides.{with_work, strides_done, format_work_ok, format_stride};
 ghost use Rattle.model.specs.declared.Work.TheVariants.{Format};
@@ -13,56 +13,26 @@ ghost use Rattle.format.specs.Format.{Formattable, Formats};
 use model::{Answer, Geometry, Map, State, Work};
 use strides::Stride;
 
-/// Whether two geometries are the same.
-fn same_geometry(g: Geometry, h: Geometry) -> bool
-    ensures { result ≡ same_geometry g h }
-{
-    if g.blocks != h.blocks {
-        return false;
-    }
-    if g.pages != h.pages {
-        return false;
-    }
-    if g.logical != h.logical {
-        return false;
-    }
-    g.planes == h.planes
-}
-
 /// The strides that a format of geometry g has done.
+#[tactic(auto, unfolding(model::specs::Strides::strides_done, model::specs::Geometry::same_geometry))]
 pub fn strides_done(g: Geometry, s: State, work: Work) -> u16
     ensures { result ≡ strides_done g s work }
 {
-    let h = s.geometry;
     match work {
-        Work::Idle => 0,
-        Work::Format(k) => {
-            if same_geometry(g, h) {
-                return k;
-            }
-            0
-        }
-        Work::Checkpoint(_) => 0,
-        Work::Reclaim => 0,
+        Work::Format(k) if g == s.geometry => k,
+        _ => 0,
     }
 }
 
 /// Whether a format's own work under way is in range, whatever map and hold are.
+#[tactic(auto, unfolding(model::specs::Strides::format_work_ok, model::specs::Geometry::same_geometry))]
 pub fn work_ok(g: Geometry, s: State, array: &[u8], work: Work) -> bool
     requires { Sized g array.now }
     ensures { (map hold : List ℕ) → result ≡ format_work_ok g (record { array = array.now; map = map; hold = hold; state = s }) work }
 {
-    let h = s.geometry;
     match work {
-        Work::Idle => true,
-        Work::Format(k) => {
-            if !same_geometry(g, h) {
-                return true;
-            }
-            frame::format_stride_ok(g, array, k)
-        }
-        Work::Checkpoint(_) => true,
-        Work::Reclaim => true,
+        Work::Format(k) => g != s.geometry || frame::format_stride_ok(g, array, k),
+        _ => true,
     }
 }
 
@@ -70,11 +40,7 @@ pub fn work_ok(g: Geometry, s: State, array: &[u8], work: Work) -> bool
 fn blank_map(map: &mut [u16])
     ensures { map.new ≡ replicate (length map.old) 65535 }
 {
-    let mut i: usize = 0;
-    while i < map.len() {
-        map[i] = Map::UNMAPPED;
-        i += 1;
-    }
+    map.fill(Map::UNMAPPED);
 }
 
 /// The state after a stride before the last, of which k were done before it.

@@ -2,3 +2,4 @@ pub mod Within
 pub mod Places
 pub mod Gates
 pub mod Outcomes
+pub mod Found

@@ -1,7 +1,7 @@
 -- What comes of a call, in one shape for all: the first of its checks that applies leaves the world as it was; where none does, its plan is carried out.
 -- Assumes nothing.
 use Prim.Native.Nat.{ℕ, ◌+◌, ◌≤◌, ◌<◌}
-use mathlib.Core.Path.{◌≡◌, refl, sym, ◌∙◌}
+use mathlib.Core.Path.{◌≡◌, refl, sym}
 use mathlib.Core.Logic.{inl, inr}
 use mathlib.Core.Bool.{true, false, cond}
 use mathlib.Core.List.{List}
@@ -10,7 +10,7 @@ use borrow.Author.Tests.{ne_eqb, lt-ltb, le-ltb}
 use native.Mathlib.Omega.{arith}
 use Rattle.model.specs.Lists.{all, those}
 use Rattle.model.specs.Geometry.{geometry_ok, lengths_ok}
-use Rattle.model.specs.Answers.{in_table}
+use Rattle.model.specs.Answers.{refusal_number}
 use Rattle.model.specs.World.{World, Plan, refuse, apply_op}
 use Rattle.model.specs.Order.{Check, first_number, leave_out, checked}
 use Rattle.model.specs.Frame.{lent_ok, frame_ok}
@@ -18,9 +18,11 @@ use Rattle.model.specs.Transactions.{place_of, begin_checks, begin_plan, plan_be
 use Rattle.model.specs.Strides.{checkpoint_checks, checkpoint_stride, plan_checkpoint, reclaim_checks, reclaim_stride, plan_reclaim, format_checks, strides_done, format_stride, plan_format}
 use Rattle.model.specs.Recover.{page_taken, recover_checks, recover_plan, plan_recover}
 use Rattle.model.specs.Commands.{Call, format, recover, begin, write, drop_page, lone, commit, abort, read, checkpoint, reclaim, Outcome, plan, carried, exec}
+use Rattle.model.specs.declared.Refusal.{Refusal}
 use Rattle.model.specs.declared.State.{State}
+use Rattle.answers.proofs.Refusals.{refusal_some}
 use Rattle.arrays.specs.Tests.{Is, eqb_cases, and_left}
-use Rattle.arrays.specs.Order.{numbered, Unless, none_applies, first_known}
+use Rattle.arrays.specs.Order.{numbered, Unless, none_applies}
 use Rattle.arrays.specs.Frame.{frame_in}
 use Rattle.frame.specs.Lent.{Sized}
 
@@ -108,24 +110,26 @@ module _ (w : World) (c : Call) where
   unfolding exec
   carried_as p q o d = rw q d
 
--- ---- the lemma of every command, n being what its checks give
-module _ (w : World) (c : Call) (n : ℕ) (e : n ≡ first_number (checks_of c w)) where
-  -- a number that refuses
-  pub refusal_known : (n ≡ 0 → ⊥) → in_table n ≡ true
-  refusal_known z = rw e (first_known (checks_of c w) (all_numbered c w) (λ q. z (e ∙ q)))
+-- ---- the lemmas of every command
+-- a number n that its checks give is its answer m, and the state t is as it was
+pub refuses : (w : World) (c : Call) (n : ℕ) → n ≡ first_number (checks_of c w) → (n ≡ 0 → ⊥) → (m : ℕ) (t : State) → (m ≡ n) × (t ≡ w.state)
+    → ◌≡◌ {A = Outcome} (record { answer = m; world = record { array = w.array; map = w.map; hold = w.hold; state = t } }) (exec c w)
+refuses w c n e z = refused_as w c n (rw (one_shape c w, ← e, ne_eqb n 0 z) refl)
 
-  -- is the answer m, and the state t is as it was
-  pub refuses : (n ≡ 0 → ⊥) → (m : ℕ) (t : State) → (m ≡ n) × (t ≡ w.state)
+module _ (w : World) (c : Call) where
+  -- the same of a refusal
+  pub refuses_why : (why : Refusal) → refusal_number why ≡ first_number (checks_of c w) → (m : ℕ) (t : State) → (m ≡ refusal_number why) × (t ≡ w.state)
       → ◌≡◌ {A = Outcome} (record { answer = m; world = record { array = w.array; map = w.map; hold = w.hold; state = t } }) (exec c w)
-  refuses z = refused_as w c n (rw (one_shape c w, ← e, ne_eqb n 0 z) refl)
+  refuses_why why e = refuses w c (refusal_number why) e (refusal_some why)
 
-  -- where it is 0 no check applies
-  pub passes : n ≡ 0 → {B : Type 0} → Unless (checks_of c w) B → B
-  passes z b = none_applies (checks_of c w) (all_numbered c w) (sym e ∙ z) b
+  module _ (e : 0 ≡ first_number (checks_of c w)) where
+    -- where none applies
+    pub passes : {B : Type 0} → Unless (checks_of c w) B → B
+    passes b = none_applies (checks_of c w) (all_numbered c w) (sym e) b
 
-  -- and what the command does is carried out
-  pub carries : n ≡ 0 → (o : Outcome) → o ≡ carried (does_of c w) w → o ≡ exec c w
-  carries z = carried_as w c (does_of c w) (rw (one_shape c w, ← e, z) refl)
+    -- what the command does is carried out
+    pub carries : (o : Outcome) → o ≡ carried (does_of c w) w → o ≡ exec c w
+    carries = carried_as w c (does_of c w) (rw (one_shape c w, ← e) refl)
 
 -- ---- refusal 13
 pub number_spent : (v : ℕ) → 4294967294 ≤ v → ltb 4294967294 (v + 1) ≡ true

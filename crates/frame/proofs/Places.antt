@@ -1,16 +1,14 @@
--- A place in range, by its count and its identifier: which tests are left; and that no later one shares its identifier. Assumes nothing.
+-- A place whose identifier no later one shares, by the identifiers alone. Assumes nothing.
 use mathlib.Core.Path.{◌≡◌, refl, sym, ap}
 use mathlib.Core.Bool.{Bool, true, false, not, ◌&&◌, ◌||◌}
 use mathlib.Core.List.{List, [], ◌∷◌}
-use Prim.Native.Nat.{ℕ, zero, suc, ◌+◌, ◌-◌, ◌≤◌, ◌<◌}
-use native.Mathlib.Omega.{arith}
-use lib.Dec.{eqb, ltb}
-use lib.ListN.{length, get_or, take, drop}
-use borrow.Author.Tests.{le-leb, lt-leb, eq-eqb, ne_eqb}
+use Prim.Native.Nat.{ℕ, zero, suc, ◌+◌, ◌<◌}
+use lib.Dec.{eqb}
+use lib.ListN.{length, get_or, drop}
+use borrow.Author.Tests.{ne_eqb}
 use Rattle.model.specs.Lists.{all, any}
-use Rattle.model.specs.Geometry.{data_page}
 use Rattle.model.specs.Zones.{has_id}
-use Rattle.model.specs.Frame.{no_place, bad_id, most_pages, place_ok, alone}
+use Rattle.model.specs.Frame.{no_place, place_ok, alone}
 use Rattle.model.specs.declared.Geometry.{Geometry}
 use Rattle.model.specs.declared.Place.{Place}
 use Rattle.places.specs.Ids.{ids_of, is_id}
@@ -20,36 +18,6 @@ use Rattle.frame.specs.Ids.{id_alone}
 -- a place with those after it
 abbrev pub place_among : Geometry → Place → List Place → Bool
 place_among g p later = place_ok g p && alone p later
-
-module _ (g : Geometry) (p : Place) (most : ℕ) (is : most ≡ most_pages g) where
-  pub place_long : most < p.count → place_ok g p ≡ false
-  unfolding place_ok
-  place_long h = rw (← is, lt-leb p.count most h)
-
-  module _ (few : p.count ≤ most) where
-    pub place_unnamed : p.id ≡ 4294967295 → place_ok g p ≡ false
-    unfolding place_ok bad_id
-    place_unnamed e = rw (← is, le-leb p.count most few, ne_eqb p.id 0 (λ z. omega arith), eq-eqb p.id 4294967295 e)
-
-    module _ (named : p.id ≡ 4294967295 → ⊥) where
-      -- nothing written: free or not
-      pub place_empty : p.count ≡ 0 → place_ok g p ≡ true
-      unfolding place_ok bad_id all
-      place_empty e = rw (← is, le-leb p.count most few, ne_eqb p.id 4294967295 named, e) (either (eqb p.id 0))
-        where
-          either : (t : Bool) → ((not (t || false) || (t && true)) && true) ≡ true
-          either true = refl
-          either false = refl
-
-      module _ (some : p.count ≡ 0 → ⊥) where
-        pub place_free : p.id ≡ 0 → place_ok g p ≡ false
-        unfolding place_ok bad_id
-        place_free e = rw (← is, le-leb p.count most few, eq-eqb p.id 0 e, ne_eqb p.count 0 some)
-
-        pub place_written : (p.id ≡ 0 → ⊥)
-            → place_ok g p ≡ (all (λ (l : ℕ). ltb l g.logical) (take p.count p.lpns) && all (data_page g) (take (p.count - 1) p.ppns))
-        unfolding place_ok bad_id
-        place_written h = rw (← is, le-leb p.count most few, ne_eqb p.id 0 h, ne_eqb p.id 4294967295 named)
 
 -- ---- the identifiers of the places
 drop_ids : (n : ℕ) (ps : List Place) → drop n (ids_of ps) ≡ ids_of (drop n ps)

@@ -2,7 +2,7 @@
 #![tactic(auto)]
 
 ghost use Rattle.std.specs.Prelude.{◌≡◌, true, ℕ, ◌+◌, ◌-◌, ◌*◌, ◌≤◌, ◌<◌, take, drop, get_or, ltb};
-ghost use Rattle.model.specs.Answers.{number};
+ghost use Rattle.answers.specs.Refusals.{refusal_of};
 ghost use Rattle.model.specs.Lists.{all};
 ghost use Rattle.model.specs.Geometry.{geometry_ok, data_page};
 ghost use Rattle.model.specs.Frame.{most_pages, place_ok, places_ok, format_stride_ok, checkpoint_stride_ok, work_ok, frame_ok, is_idle, gate};
@@ -17,129 +17,90 @@ const FRONT: u8 = Geometry::FRONT_BLOCKS as u8;
 /// Pages that a place has room for.
 const PAGES: u8 = Place::PAGES as u8;
 
-/// Whether the first n numbers are at least lo and below hi.
-fn numbers_ok(list: [u16; Place::PAGES], n: usize, lo: u16, hi: u16) -> bool
-    requires { n ≤ 64 }
-    ensures { result ≡ all (within lo hi) (take n list) }
+/// Whether each number is at least lo and below hi.
+fn numbers_ok(list: &[u16], lo: u16, hi: u16) -> bool
+    ensures { result ≡ all (within lo hi) list.now }
 {
-    for i in 0..n {
-        if list[i] < lo {
-            return false;
-        }
-        if list[i] >= hi {
-            return false;
-        }
-    }
-    true
+    list.iter().all(|&k| lo <= k && k < hi)
 }
 
-/// Whether the first n logical page numbers are in range.
-fn lpns_ok(lpns: [u16; Place::PAGES], n: usize, logical: u16) -> bool
-    requires { n ≤ 64 }
-    ensures { result ≡ all (λ (l : ℕ). ltb l logical) (take n lpns) }
+/// Whether each logical page number is in range.
+fn lpns_ok(lpns: &[u16], logical: u16) -> bool
+    ensures { result ≡ all (λ (l : ℕ). ltb l logical) lpns.now }
 {
-    numbers_ok(lpns, n, 0, logical)
+    numbers_ok(lpns, 0, logical)
 }
 
-/// Whether the first n page numbers are of data blocks.
-fn ppns_ok(g: Geometry, ppns: [u16; Place::PAGES], n: usize) -> bool
-    requires { (geometry_ok g ≡ true) × (n ≤ 64) }
-    ensures { result ≡ all (data_page g) (take n ppns) }
+/// Whether each page number is of a data block.
+fn ppns_ok(g: Geometry, ppns: &[u16]) -> bool
+    requires { geometry_ok g ≡ true }
+    ensures { result ≡ all (data_page g) ppns.now }
 {
-    let lo = Geometry::FRONT_BLOCKS * g.pages;
-    let hi = g.blocks * g.pages;
-    numbers_ok(ppns, n, lo, hi)
+    numbers_ok(ppns, Geometry::FRONT_BLOCKS * g.pages, g.blocks * g.pages)
 }
 
 /// The pages that a place may have: on two planes, those that a change may be written up to.
+#[tactic(auto, unfolding(model::specs::Frame::most_pages))]
 fn most_pages(g: Geometry) -> u8
     ensures { (result ≡ most_pages g) × (result ≤ 64) }
 {
     if g.planes == 2 {
-        return State::LONGEST_CHANGE;
+        State::LONGEST_CHANGE
+    } else {
+        PAGES
     }
-    PAGES
 }
 
 /// Whether a place is in range.
-fn place_ok(g: Geometry, p: Place) -> bool
+#[tactic(auto, unfolding(model::specs::Frame::place_ok, model::specs::Frame::bad_id, model::specs::Lists::all))]
+fn place_ok(g: Geometry, p: &Place) -> bool
     requires { geometry_ok g ≡ true }
-    ensures { result ≡ place_ok g p }
+    ensures { result ≡ place_ok g p.now }
 {
-    if p.count > most_pages(g) {
-        return false;
-    }
-    if p.id == State::NO_NUMBER {
-        return false;
-    }
     let n = p.count as usize;
-    if n == 0 {
-        return true;
-    }
-    if p.id == 0 {
-        return false;
-    }
-    let lpns = p.lpns;
-    if !lpns_ok(lpns, n, g.logical) {
-        return false;
-    }
-    let ppns = p.ppns;
-    ppns_ok(g, ppns, n - 1)
+    p.count <= most_pages(g)
+        && p.id != State::NO_NUMBER
+        && (n == 0 || p.id != 0 && lpns_ok(&p.lpns[..n], g.logical) && ppns_ok(g, &p.ppns[..n - 1]))
 }
 
 /// Whether no later place has the identifier of place i, or that is free.
-fn is_alone(ids: [u32; State::PLACES], i: usize) -> bool
+#[tactic(auto, unfolding(crate::specs::Ids::id_alone))]
+fn is_alone(ids: &[u32; State::PLACES], i: usize) -> bool
     requires { i < 8 }
-    ensures { result ≡ id_alone (get_or ids i 0) (drop (i + 1) ids) }
+    ensures { result ≡ id_alone (get_or ids.now i 0) (drop (i + 1) ids.now) }
 {
-    let id = ids[i];
-    if id == 0 {
-        return true;
-    }
-    let j = i + 1;
-    !places::among(&ids[j..], id)
+    ids[i] == 0 || !ids[i + 1..].contains(&ids[i])
 }
 
-/// Whether the places are in range, and no two share an identifier. The identifiers are taken out once, so that no look copies the places.
-fn places_ok(g: Geometry, ps: [Place; State::PLACES]) -> bool
+/// Whether the places are in range, and no two share an identifier.
+fn places_ok(g: Geometry, ps: &[Place; State::PLACES]) -> bool
     requires { geometry_ok g ≡ true }
-    ensures { result ≡ places_ok g ps }
+    ensures { result ≡ places_ok g ps.now }
 {
     let ids = places::ids_of(ps);
-    let mut i: usize = 0;
-    while i < State::PLACES {
-        let p = ps[i];
-        if !place_ok(g, p) {
+    for (i, p) in ps.iter().enumerate() {
+        if !place_ok(g, p) || !is_alone(&ids, i) {
             return false;
         }
-        if !is_alone(ids, i) {
-            return false;
-        }
-        i += 1;
     }
     true
 }
 
 /// Whether a format's stride number is in range and its next front page erased.
+#[tactic(auto, unfolding(model::specs::Frame::format_stride_ok))]
 pub fn format_stride_ok(g: Geometry, array: &[u8], k: u16) -> bool
     requires { Sized g array.now }
     ensures { result ≡ format_stride_ok g array.now k }
 {
     let n = k as usize;
     let blocks = g.blocks as usize;
-    if n < 1 {
-        return false;
-    }
-    if n > blocks + ranges::map_pages(g) {
-        return false;
-    }
-    if n < blocks {
-        return true;
-    }
-    flash::is_blank(array, n - blocks)
+    1 <= n
+        && n <= blocks + ranges::map_pages(g)
+        && (n < blocks || flash::is_blank(array, n - blocks))
 }
 
 /// Whether a checkpoint's stride number is in range and its next front page erased.
+#[tactic(auto, unfolding(model::specs::Frame::checkpoint_stride_ok))]
 fn checkpoint_stride_ok(g: Geometry, array: &[u8], front: u8, first: u8, k: u16) -> bool
     requires { Sized g array.now × (front < 2) }
     ensures { result ≡ checkpoint_stride_ok g array.now front first k }
@@ -148,91 +109,57 @@ fn checkpoint_stride_ok(g: Geometry, array: &[u8], front: u8, first: u8, k: u16)
     let pages = g.pages as usize;
     let n = k as usize;
     let q = first as usize;
-    if n > m {
-        return false;
-    }
-    if q + m >= pages {
-        return false;
-    }
-    if n == 0 {
-        if q != 0 {
-            return false;
-        }
-    }
-    flash::is_blank(array, (front as usize) * pages + (q + n))
+    n <= m
+        && q + m < pages
+        && (n != 0 || q == 0)
+        && flash::is_blank(array, front as usize * pages + (q + n))
 }
 
 /// Whether the work under way, its first page and its next front page are in range.
-fn work_ok(s: State, array: &[u8], work: Work) -> bool
-    requires { Sized s.geometry array.now × (s.front < 2) }
-    ensures { result ≡ work_ok s array.now work }
+#[tactic(auto, unfolding(model::specs::Frame::work_ok))]
+fn work_ok(s: &State, array: &[u8]) -> bool
+    requires { Sized s.now.geometry array.now × (s.now.front < 2) }
+    ensures { result ≡ work_ok s.now array.now s.now.work }
 {
     let g = s.geometry;
-    let first = s.first;
-    match work {
-        Work::Idle => first == 0,
-        Work::Format(k) => {
-            if first != 0 {
-                return false;
-            }
-            format_stride_ok(g, array, k)
-        }
-        Work::Checkpoint(k) => checkpoint_stride_ok(g, array, s.front, first, k),
-        Work::Reclaim => first == 0,
+    match s.work {
+        Work::Idle | Work::Reclaim => s.first == 0,
+        Work::Format(k) => s.first == 0 && format_stride_ok(g, array, k),
+        Work::Checkpoint(k) => checkpoint_stride_ok(g, array, s.front, s.first, k),
     }
 }
 
 /// Whether a state and the buffers lent beside it are in range.
-pub fn frame_ok(s: State, array: &[u8], map: &[u16], hold: &[u8]) -> bool
-    ensures { result ≡ frame_ok (record { array = array.now; map = map.now; hold = hold.now; state = s }) }
+#[tactic(auto, unfolding(model::specs::Frame::frame_ok, model::specs::Frame::lent_ok))]
+pub fn frame_ok(s: &State, array: &[u8], map: &[u16], hold: &[u8]) -> bool
+    ensures { result ≡ frame_ok (record { array = array.now; map = map.now; hold = hold.now; state = s.now }) }
 {
     let g = s.geometry;
-    if !ranges::lent_ok(g, array, map, hold) {
-        return false;
-    }
-    if !ranges::map_ok(g, map) {
-        return false;
-    }
-    let z = s.zones;
-    if !ranges::zones_ok(g, z) {
-        return false;
-    }
-    let ps = s.places;
-    if !places_ok(g, ps) {
-        return false;
-    }
-    if s.front >= FRONT {
-        return false;
-    }
-    let w = s.work;
-    work_ok(s, array, w)
+    ranges::lent_ok(g, array, map, hold)
+        && ranges::map_ok(g, map)
+        && ranges::zones_ok(g, s.zones)
+        && places_ok(g, &s.places)
+        && s.front < FRONT
+        && work_ok(s, array)
 }
 
 /// Whether no work is under way.
 pub fn is_idle(work: Work) -> bool
     ensures { result ≡ is_idle work }
 {
-    match work {
-        Work::Idle => true,
-        Work::Format(_) => false,
-        Work::Checkpoint(_) => false,
-        Work::Reclaim => false,
-    }
+    work == Work::Idle
 }
 
-/// The number that refuses on such a world, 1 or 17, or 0; `own`: nothing is under way but the command's own work, or the command is read.
-pub fn gate(own: bool, s: State, array: &[u8], map: &[u16], hold: &[u8]) -> u8
-    ensures { result ≡ gate own (record { array = array.now; map = map.now; hold = hold.now; state = s }) }
+/// What refuses on such a world, 1 or 17; `own`: nothing is under way but the command's own work, or the command is read.
+#[tactic(auto, unfolding(model::specs::Frame::gate, model::specs::Order::first_number))]
+pub fn gate(own: bool, s: &State, array: &[u8], map: &[u16], hold: &[u8]) -> Result<(), Refusal>
+    ensures { refusal_of result ≡ gate own (record { array = array.now; map = map.now; hold = hold.now; state = s.now }) }
 {
     if !frame_ok(s, array, map, hold) {
-        return Refusal::BAD_FRAME;
+        return Err(Refusal::BadFrame);
     }
-    if own {
-        return 0;
+    if !own && !is_idle(s.work) {
+        return Err(Refusal::Busy);
     }
-    let w = s.work;
-    if is_idle(w) {
-        return 0;
-    }
-    Refusal::BUSY
+    Ok(())
 }

@@ -12,7 +12,7 @@ use Rattle.model.specs.Strides.{is_reclaim, mapped_in, picked, copies_due, reser
 use Rattle.arrays.specs.Frame.{frame_in}
 use Rattle.frame.proofs.Outcomes.{frame_sized}
 use Rattle.strides.specs.Strode.{Fit}
-use Rattle.reclaim.specs.Copies.{looked, own_checks, Looked, Going}
+use Rattle.reclaim.specs.Copies.{looked, own_checks, Taken, Going}
 
 -- ---- a world that passes refusal 1
 module _ (w : World) (f : frame_ok w ≡ true) where
@@ -41,9 +41,11 @@ block_going w b copies taken due spent short =
     let r = rw (taken, ← due) at short in
     record { taken = taken; due = due; passes = rw (v, r) refl }
 
--- behind refusals 1 and 17 a reclaim's own checks are left
-pub looked_on : (w : World) → frame_ok w ≡ true → (is_idle w.state.work || is_reclaim w.state.work) ≡ true
-    → (n b copies : ℕ) → Looked (looked w.state w.array w.map) (own_checks (looked w.state w.array w.map)) n b copies
-    → Looked w (reclaim_checks w) n b copies
+-- a reclaim's own checks do not look at the hold
+pub looked_on : (w : World) → first_number (own_checks (looked w.state w.array w.map)) ≡ first_number (own_checks w)
 unfolding picked first_number
-looked_on w f i n b copies l = record { refusal = rw (f, i) l.refusal; taken = l.taken }
+looked_on w = refl
+
+pub taken_on : (w : World) (b copies : ℕ) → Taken (looked w.state w.array w.map) b copies → Taken w b copies
+unfolding picked
+taken_on w b copies t = record { block = t.block; due = t.due }

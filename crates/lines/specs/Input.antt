@@ -1,7 +1,7 @@
 -- The three lines of the input, each a name with '=', one to five decimal digits and a line end.
-use Rattle.std.specs.Prelude.{ℕ, suc, ◌+◌, ◌-◌, ◌*◌, cond, List, [], ◌∷◌, drop, eqb, ltb, leb}
-use Rattle.lines.specs.declared.Parsed.{Parsed}
-use Rattle.lines.specs.declared.Parsed.TheVariants.{Number, IllFormed}
+use Rattle.std.specs.Prelude.{ℕ, suc, ◌+◌, ◌-◌, ◌*◌, cond, List, [], ◌∷◌, eqb, ltb, leb}
+use Rattle.std.specs.Prelude.{Option, Some, None}
+use denote.Bor.{Bor}
 
 -- what a line says, and what stands after it; or nothing
 pub data Line : Type 0 where
@@ -25,12 +25,7 @@ line_of [] xs = value_from 0 0 xs
 line_of (c ∷ name) [] = ill_formed
 line_of (c ∷ name) (x ∷ xs) = cond (eqb x c) (line_of name xs) ill_formed
 
--- ---- a line as the code has it: a number, and how many bytes of xs the line takes
-abbrev pub line_in : List ℕ → Parsed → Line
-line_in xs (Number v n) = says v (drop n xs)
-line_in xs IllFormed = ill_formed
-
--- how many bytes it takes
-abbrev pub taken : Parsed → ℕ
-taken (Number v n) = n
-taken IllFormed = 0
+-- ---- a line as the code has it: a number and what stands behind the line, or nothing
+abbrev pub line_in : Option (ℕ × Bor (List ℕ)) → Line
+line_in (Some p) = says p.0 p.1.now
+line_in None = ill_formed

@@ -1,10 +1,10 @@
--- The zone lists in the data of a zone page: as parts of them, one after the other, and as blocks that are kept. Assumes nothing.
+-- The zone lists in the data of a zone page: as parts of them, one after the other. Assumes nothing.
 use mathlib.Core.Path.{◌≡◌, ap, sym, ◌∙◌}
 use mathlib.Core.Bool.{Bool, true, false, ◌&&◌, and_assoc}
 use mathlib.Core.List.{List, ◌++◌}
 use Prim.Native.Nat.{ℕ, ◌+◌, ◌-◌, ◌≤◌, ◌<◌}
 use native.Mathlib.Omega.{arith}
-use lib.ListN.{length, take, drop, get_or, length-take}
+use lib.ListN.{length, take, drop, get_or}
 use lib.Seq.{take-add, drop-drop}
 use lib.Dec.{eqb, leb}
 use borrow.Author.Tests.{lt-leb}
@@ -15,10 +15,8 @@ use Rattle.model.specs.Checkpoint.{available_in, unavailable_in, free_in, zones_
 use Rattle.model.specs.declared.Geometry.{Geometry}
 use Rattle.model.specs.declared.Zones.{Zones}
 use Rattle.arrays.specs.Splice.{length_part}
-use Rattle.blocks.specs.declared.Blocks.{Blocks}
-use Rattle.blocks.specs.Blocks.{blocks_of, list_of}
-use Rattle.blocks.proofs.Kept.{kept_list, kept_count}
-use Rattle.ranges.proofs.Listed.{laid_ok, laid_lists, drop_rest}
+use Rattle.std.proofs.lemmas.List.{take_rest}
+use Rattle.ranges.proofs.Listed.{laid_ok, laid_lists}
 use Rattle.load.specs.Load.{zone_page_ok}
 
 -- both halves of refusal 3 are the whole of it
@@ -28,22 +26,17 @@ unfolding zone_page_ok load_ok
 halves g entries z = and_assoc (map_ok g (take g.logical entries)) (all (eqb unmapped) (drop g.logical entries)) _
 
 -- ---- parts
--- a part that is kept as blocks: its list and its count
-pub part_kept : (z : List ℕ) (i e n : ℕ) (r : Blocks) → e ≡ i + n → r ≡ blocks_of (take (e - i) (drop i z)) → list_of r ≡ part i n z
+-- from byte i up to byte e
+pub part_is : (z : List ℕ) (i e n : ℕ) (r : List ℕ) → e ≡ i + n → r ≡ take (e - i) (drop i z) → r ≡ part i n z
 unfolding part
-part_kept z i e n r h k =
+part_is z i e n r h k =
     let s : e - i ≡ n = omega arith in
-    kept_list r (take (e - i) (drop i z)) k ∙ ap (λ (j : ℕ). take j (drop i z)) s
-
-pub part_count : (z : List ℕ) (i e n : ℕ) (r : Blocks) → e ≡ i + n → r ≡ blocks_of (take (e - i) (drop i z)) → r.n ≤ n
-part_count z i e n r h k =
-    let c = kept_count r (take (e - i) (drop i z)) k in
-    omega (arith, length-take (e - i) (drop i z))
+    k ∙ ap (λ (j : ℕ). take j (drop i z)) s
 
 -- the zones of the three parts, whose lengths are the counts in the data
-pub zones_read : (z : List ℕ) (na nu nf : ℕ) (a u f : Blocks) (r : Zones) → na ≡ get_or z 5 0 → nu ≡ get_or z 6 0 → nf ≡ get_or z 7 0
-    → list_of a ≡ part 8 na z → list_of u ≡ part (8 + na) nu z → list_of f ≡ part (8 + na + nu) nf z
-    → r ≡ zones_of (list_of a) (list_of u) (list_of f) (get_or z 4 0) → r ≡ zones_in z
+pub zones_read : (z : List ℕ) (na nu nf : ℕ) (a u f : List ℕ) (r : Zones) → na ≡ get_or z 5 0 → nu ≡ get_or z 6 0 → nf ≡ get_or z 7 0
+    → a ≡ part 8 na z → u ≡ part (8 + na) nu z → f ≡ part (8 + na + nu) nf z
+    → r ≡ zones_of a u f (get_or z 4 0) → r ≡ zones_in z
 unfolding zones_in
 zones_read z na nu nf a u f r ea eu ef la lu lf e = e ∙ rw (la, lu, lf, ea, eu, ef)
 
@@ -87,5 +80,5 @@ module _ (g : Geometry) (z : List ℕ) (na nu nf e : ℕ) (ea : na ≡ get_or z 
   unfolding zone_page_ok
   rest_decides t r h l f k =
       let s : e ≡ 8 + get_or z 5 0 + get_or z 6 0 + get_or z 7 0 = omega arith in
-      k ∙ ap (all (eqb 0)) (drop_rest z e) ∙ ap (λ (j : ℕ). all (eqb 0) (drop j z)) s
+      k ∙ ap (all (eqb 0)) (take_rest z e) ∙ ap (λ (j : ℕ). all (eqb 0) (drop j z)) s
       ∙ ap (λ (b : Bool). b && all (eqb 0) (drop (8 + get_or z 5 0 + get_or z 6 0 + get_or z 7 0) z)) (sym f ∙ l ∙ lists_read g z na nu nf e (get_or z 4 0) ea eu ef ee h)

@@ -1,46 +1,59 @@
--- One number taken of two stands for a test of both, and a loop that keeps it over a list. Assumes nothing.
-use mathlib.Core.Path.{◌≡◌, sym, ap, ◌∙◌}
+-- One number taken of all, the lowest or the highest, stands for a test of each. Assumes nothing.
+use mathlib.Core.Path.{◌≡◌, sym, ◌∙◌}
+use mathlib.Core.Bool.{false, ◌&&◌, and-true, and_assoc}
 use mathlib.Core.Logic.{inl, inr}
-use mathlib.Core.Bool.{Bool, ◌&&◌, and-true, and_assoc}
-use mathlib.Core.List.{List}
-use Prim.Native.Nat.{ℕ, ◌+◌, ◌≤◌, ◌<◌}
-use lib.ListN.{length, drop, get_or, drop_of_length-le}
+use mathlib.Core.List.{List, [], ◌∷◌}
+use Prim.Native.Nat.{ℕ, suc, ◌≤◌, min, max}
+use native.Mathlib.Omega.{arith}
+use lib.ListN.{get_or}
 use lib.Dec.{eqb}
 use borrow.Author.Tests.{eq-eqb, ne_eqb}
+use Rattle.std.specs.List.{fold}
+use Rattle.model.specs.Geometry.{unmapped}
 use Rattle.model.specs.Lists.{all}
-use Rattle.arrays.specs.Tests.{Is, eqb_cases, and_right_false}
-use Rattle.blocks.proofs.Loops.{all_step}
+use Rattle.arrays.specs.Tests.{Is, eqb_cases}
 
--- the second of two is taken: it is n only where the first is
-pub second : (n a b : ℕ) → (b ≡ n → a ≡ n) → eqb n b ≡ (eqb n a && eqb n b)
-second n a b h = go (eqb_cases n b)
+-- either side of the test
+turned : (n a : ℕ) → eqb a n ≡ eqb n a
+turned n a = go (eqb_cases a n)
   where
-    go : Is n b → eqb n b ≡ (eqb n a && eqb n b)
-    go (inl (e, t)) = rw (t, eq-eqb n a (sym (h (sym e))))
-    go (inr (_, f)) = f ∙ sym (and_right_false (eqb n a) (eqb n b) f)
+    go : Is a n → eqb a n ≡ eqb n a
+    go (inl (t, u)) = u ∙ sym (eq-eqb n a (sym t))
+    go (inr (t, u)) = u ∙ sym (ne_eqb n a (λ (k : n ≡ a). t (sym k)))
 
--- the first is taken
-pub first : (n a b : ℕ) → (a ≡ n → b ≡ n) → eqb n a ≡ (eqb n a && eqb n b)
-first n a b h = go (eqb_cases n a)
+-- r taken of two is n only where both are
+both : (n a b r : ℕ) → (r ≡ n → (a ≡ n) × (b ≡ n)) → (a ≡ n → b ≡ n → r ≡ n) → eqb n r ≡ (eqb n a && eqb n b)
+both n a b r h k = go (eqb_cases n a) (eqb_cases n b)
   where
-    go : Is n a → eqb n a ≡ (eqb n a && eqb n b)
-    go (inl (e, t)) = rw (t, eq-eqb n b (sym (h (sym e))))
-    go (inr (_, f)) = rw f
+    no : (r ≡ n → ⊥) → eqb n r ≡ false
+    no u = ne_eqb n r (λ (e : n ≡ r). u (sym e))
 
--- a turn of the loop: r is taken of a, which stands for those before, and the element
-pub turn : {X : Bool} (n : ℕ) (l : List ℕ) (i a r : ℕ) → i < length l → X ≡ (eqb n a && all (eqb n) (drop i l))
-    → eqb n r ≡ (eqb n a && eqb n (get_or l i 0)) → X ≡ (eqb n r && all (eqb n) (drop (i + 1) l))
-turn n l i a r h e k =
-    e
-    ∙ ap (λ (b : Bool). eqb n a && b) (all_step (eqb n) l i 0 h)
-    ∙ sym (and_assoc (eqb n a) (eqb n (get_or l i 0)) (all (eqb n) (drop (i + 1) l)))
-    ∙ ap (λ (b : Bool). b && all (eqb n) (drop (i + 1) l)) (sym k)
+    go : Is n a → Is n b → eqb n r ≡ (eqb n a && eqb n b)
+    go (inl (e, t)) (inl (f, u)) = rw (t, u) (eq-eqb n r (sym (k (sym e) (sym f))))
+    go (inl (e, t)) (inr (f, u)) = rw (t, u) (no (λ (q : r ≡ n). f (sym (h q).1)))
+    go (inr (e, t)) s = rw t (no (λ (q : r ≡ n). e (sym (h q).0)))
 
--- its end
-pub end : {X : Bool} (n : ℕ) (l : List ℕ) (i a : ℕ) → length l ≤ i → X ≡ (eqb n a && all (eqb n) (drop i l)) → eqb a n ≡ X
+-- one more of the list
+more : (n a b r : ℕ) (xs : List ℕ) → eqb n r ≡ (eqb n a && eqb n b) → (eqb n r && all (eqb n) xs) ≡ (eqb n a && all (eqb n) (b ∷ xs))
 unfolding all
-end n l i a h e = turned (eqb_cases a n) ∙ sym (e ∙ ap (λ (xs : List ℕ). eqb n a && all (eqb n) xs) (drop_of_length-le l h) ∙ and-true (eqb n a))
-  where
-    turned : Is a n → eqb a n ≡ eqb n a
-    turned (inl (t, u)) = u ∙ sym (eq-eqb n a (sym t))
-    turned (inr (t, u)) = u ∙ sym (ne_eqb n a (λ (k : n ≡ a). t (sym k)))
+more n a b r xs e = rw e (and_assoc (eqb n a) (eqb n b) (all (eqb n) xs))
+
+highest : (a : ℕ) (xs : List ℕ) → eqb 0 (fold max a xs) ≡ (eqb 0 a && all (eqb 0) xs)
+unfolding all
+highest a [] = sym (and-true (eqb 0 a))
+highest a (x ∷ xs) = highest (max a x) xs ∙ more 0 a x (max a x) xs (both 0 a x (max a x) (λ e. (omega arith, omega arith)) (λ e f. omega arith))
+
+-- the highest of all is zero only where each is
+pub highest_zero : (xs : List ℕ) → eqb (fold max 0 xs) 0 ≡ all (eqb 0) xs
+highest_zero xs = turned 0 (fold max 0 xs) ∙ highest 0 xs
+
+lowest : (a : ℕ) (xs : List ℕ) → a ≤ unmapped → ((i : ℕ) → get_or xs i 0 ≤ unmapped) → eqb unmapped (fold min a xs) ≡ (eqb unmapped a && all (eqb unmapped) xs)
+unfolding all
+lowest a [] h k = sym (and-true (eqb unmapped a))
+lowest a (x ∷ xs) h k =
+    let l : x ≤ unmapped = k 0 in
+    lowest (min a x) xs (omega arith) (λ i. k (suc i)) ∙ more unmapped a x (min a x) xs (both unmapped a x (min a x) (λ e. (omega arith, omega arith)) (λ e f. omega arith))
+
+-- the lowest of entries is unmapped only where each is
+pub lowest_unmapped : (xs : List ℕ) → ((i : ℕ) → get_or xs i 0 ≤ unmapped) → eqb (fold min unmapped xs) unmapped ≡ all (eqb unmapped) xs
+lowest_unmapped xs k = turned unmapped (fold min unmapped xs) ∙ lowest unmapped xs (omega arith) k

@@ -1,10 +1,10 @@
 -- The entries of map pages as they are read back: two bytes an entry, one page after the other. Assumes nothing.
 use mathlib.Core.Path.{◌≡◌, refl, ap, sym, ◌∙◌}
 use mathlib.Core.List.{List, [], ◌∷◌, ◌++◌, append_assoc, append-nil}
-use Prim.Native.Nat.{ℕ, zero, suc, ◌+◌, ◌-◌, ◌*◌, ◌≤◌, ◌<◌}
+use Prim.Native.Nat.{ℕ, zero, suc, ◌+◌, ◌-◌, ◌*◌, ◌≤◌}
 use native.Mathlib.Omega.{arith}
-use lib.ListN.{length, take, drop, replicate, length-append, length-replicate, replicate-append-replicate}
-use lib.Seq.{take_at, drop_at}
+use lib.ListN.{length, take, drop, replicate, length-append, length-drop, drop_of_length-le}
+use lib.Seq.{take_at, length-take-le}
 use Rattle.model.specs.Bytes.{words}
 use Rattle.model.specs.Page.{page_at, data_at}
 use Rattle.model.specs.Lists.{part}
@@ -39,39 +39,23 @@ map_more xs k (suc i) =
     ap (λ (l : List ℕ). words (data_at xs k) ++ l) (map_more xs (suc k) i ∙ ap (λ (j : ℕ). load_map xs (suc k) i ++ words (data_at xs j)) e)
     ∙ sym (append_assoc (words (data_at xs k)) (load_map xs (suc k) i) (words (data_at xs (k + suc i))))
 
-drop_zeros : (n m : ℕ) → drop n (replicate {A = ℕ} (n + m) 0) ≡ replicate {A = ℕ} m 0
-drop_zeros n m = ap (drop n) (sym (replicate-append-replicate {A = ℕ} n m 0)) ∙ drop_at (replicate n 0) (replicate m 0) n (length-replicate {A = ℕ} n 0)
-
--- i map pages, read over 1024 zeros
-pub record Loaded (xs : List ℕ) (k i : ℕ) (l : List ℕ) : Type 0 where
-  pub used : length (load_map xs k i) ≡ 256 * i
-  pub is : l ≡ load_map xs k i ++ replicate (1024 - 256 * i) 0
-
-pub loaded_none : (xs : List ℕ) (k : ℕ) (l : List ℕ) → l ≡ replicate 1024 0 → Loaded xs k 0 l
-unfolding load_map
-loaded_none xs k l e = record { used = refl; is = e }
-
-pub length_loaded : (xs : List ℕ) (k i : ℕ) (l : List ℕ) → i ≤ 4 → Loaded xs k i l → length l ≡ 1024
-length_loaded xs k i l h d =
-    let u = d.used in
-    ap length d.is ∙ omega (arith, length-append (load_map xs k i) (replicate (1024 - 256 * i) 0), length-replicate {A = ℕ} (1024 - 256 * i) 0)
-
--- one more page, stored as ys behind the first i
-pub loaded_more : (xs : List ℕ) (k i : ℕ) (l ys : List ℕ) → i < 4 → PageFits xs (k + i) → ys ≡ words (data_at xs (k + i)) → Loaded xs k i l
-    → Loaded xs k (i + 1) (take (256 * i) l ++ (ys ++ drop 256 (drop (256 * i) l)))
+-- one page more, stored as ys behind the first i
+pub loaded_more : (xs : List ℕ) (k i : ℕ) (l ys : List ℕ) → 256 * i ≤ length l → PageFits xs (k + i) → ys ≡ words (data_at xs (k + i)) → take (256 * i) l ≡ load_map xs k i
+    → take (256 * (i + 1)) (take (256 * i) l ++ (ys ++ drop 256 (drop (256 * i) l))) ≡ load_map xs k (i + 1)
 loaded_more xs k i l ys h f e d =
-    let a : ℕ = 256 * i in
+    let a : List ℕ = take (256 * i) l in
+    let rest : List ℕ = drop 256 (drop (256 * i) l) in
     let n : suc i ≡ i + 1 = omega arith in
-    let zs : List ℕ = replicate (1024 - a) 0 in
-    let u : length (load_map xs k i) ≡ a = d.used in
-    let s : load_map xs k i ++ ys ≡ load_map xs k (i + 1) = ap (λ (v : List ℕ). load_map xs k i ++ v) e ∙ sym (map_more xs k i) ∙ ap (load_map xs k) n in
     let y : length ys ≡ 256 = ap length e ∙ length_words 256 (data_at xs (k + i)) (length_data xs (k + i) f) in
-    let t : take a l ≡ load_map xs k i = ap (take a) d.is ∙ take_at (load_map xs k i) zs a u in
-    let left : ℕ = 1024 - 256 * (i + 1) in
-    let all : 256 + left ≡ 1024 - a = omega arith in
-    let z : drop 256 zs ≡ replicate left 0 = ap (λ (j : ℕ). drop 256 (replicate j 0)) (sym all) ∙ drop_zeros 256 left in
-    let b : drop 256 (drop a l) ≡ replicate left 0 = ap (λ (v : List ℕ). drop 256 (drop a v)) d.is ∙ ap (drop 256) (drop_at (load_map xs k i) zs a u) ∙ z in
-    record {
-      used = ap length (sym s) ∙ omega (arith, length-append (load_map xs k i) ys);
-      is = rw (t, b) (sym (append_assoc (load_map xs k i) ys (replicate left 0)) ∙ ap (λ (v : List ℕ). v ++ replicate left 0) s);
-    }
+    let t : length (a ++ ys) ≡ 256 * (i + 1) = omega (arith, length-append a ys, length-take-le (256 * i) l h) in
+    ap (take (256 * (i + 1))) (sym (append_assoc a ys rest)) ∙ take_at (a ++ ys) rest (256 * (i + 1)) t
+    ∙ ap (λ (v : List ℕ). v ++ ys) d ∙ ap (λ (v : List ℕ). load_map xs k i ++ v) e ∙ sym (map_more xs k i) ∙ ap (load_map xs k) n
+
+-- all of them, with zeros stored behind
+pub zeros_behind : (l ms zs : List ℕ) (a k : ℕ) → take a l ≡ ms → length l ≡ a + k → zs ≡ replicate (length (take k (drop a l))) 0 → take a l ++ (zs ++ drop k (drop a l)) ≡ ms ++ replicate k 0
+zeros_behind l ms zs a k t n z =
+    let d : length (drop a l) ≡ k = omega (arith, length-drop a l) in
+    let w : length (take k (drop a l)) ≡ k = length-take-le k (drop a l) (omega arith) in
+    ap (λ (v : List ℕ). v ++ (zs ++ drop k (drop a l))) t
+    ∙ ap (λ (v : List ℕ). ms ++ (zs ++ v)) (drop_of_length-le (drop a l) (omega arith))
+    ∙ ap (λ (v : List ℕ). ms ++ v) (append-nil zs ∙ z ∙ ap (λ (j : ℕ). replicate j 0) w)

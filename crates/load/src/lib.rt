@@ -1,7 +1,7 @@
 // What is read back from a checkpoint, and refusal 3.
 #![tactic(auto)]
 
-ghost use Rattle.std.specs.Prelude.{◌≡◌, true, ◌&&◌, ◌+◌, ◌-◌, ◌*◌, ◌≤◌, ◌<◌, ◌++◌, length, replicate, take, drop, eqb};
+ghost use Rattle.std.specs.Prelude.{◌≡◌, true, ◌&&◌, ◌+◌, ◌-◌, ◌*◌, ◌≤◌, ◌<◌, length, take, drop, eqb, ◌++◌, replicate};
 ghost use Rattle.model.specs.Lists.{all};
 ghost use Rattle.model.specs.Bytes.{words};
 ghost use Rattle.model.specs.Page.{data_at};
@@ -9,6 +9,7 @@ ghost use Rattle.model.specs.Geometry.{geometry_ok, unmapped, map_ok};
 ghost use Rattle.model.specs.Checkpoint.{load_map, zones_in};
 ghost use Rattle.load.specs.Load.{zone_page_ok, Entries, Counts};
 
+use blocks::Blocks;
 use model::{Geometry, Map, Zones};
 
 /// How many front blocks there are.
@@ -22,73 +23,34 @@ fn load_page(array: &[u8], k: usize, to: &mut [u16])
     page::words16(flash::page_of(array, k), 0, to);
 }
 
-/// The entries of the m map pages from page k on.
-pub fn load_map(array: &[u8], k: usize, m: usize) -> [u16; 1024]
+/// The entries of the m map pages from page k on, and zeros behind them. They are lent: 2 KB that are returned may be copied once more on the stack.
+pub fn load_map(array: &[u8], k: usize, m: usize, entries: &mut [u16; 1024])
     requires { (k * 528 + m * 528 ≤ length array.now) × (m ≤ 4) }
-    ensures { result ≡ load_map array.now k m ++ replicate (1024 - 256 * m) 0 }
+    ensures { entries.new ≡ load_map array.now k m ++ replicate (1024 - 256 * m) 0 }
 {
-    let mut entries = [0u16; 1024];
-    let mut i: usize = 0;
-    while i < m {
+    // by index: a proof does not know what a chunk of `chunks_exact_mut` was left with
+    for i in 0..m {
         let a = Map::ENTRIES_A_PAGE * i;
-        let e = a + Map::ENTRIES_A_PAGE;
-        load_page(array, k + i, &mut entries[a..e]);
-        i += 1;
+        load_page(array, k + i, &mut entries[a..a + Map::ENTRIES_A_PAGE]);
     }
-    entries
+    entries[Map::ENTRIES_A_PAGE * m..].fill(0);
 }
 
-/// The lower of two entries: unmapped only where both are.
-fn lower(v: u16, w: u16) -> u16
-    ensures { eqb unmapped result ≡ (eqb unmapped v && eqb unmapped w) }
-{
-    if w < v {
-        return w;
-    }
-    v
-}
-
-/// Whether every entry is unmapped: the lowest is. The loop has no other way out, so many entries are taken at once.
+/// Whether every entry is unmapped: the lowest is. The fold has no other way out, so many entries are taken at once.
 fn all_unmapped(entries: &[u16]) -> bool
     ensures { result ≡ all (eqb unmapped) entries.now }
 {
-    let mut lowest = Map::UNMAPPED;
-    let mut i: usize = 0;
-    while i < entries.len() {
-        lowest = lower(lowest, entries[i]);
-        i += 1;
-    }
-    lowest == Map::UNMAPPED
-}
-
-/// The higher of two bytes: zero only where both are.
-fn higher(v: u8, w: u8) -> u8
-    ensures { eqb 0 result ≡ (eqb 0 v && eqb 0 w) }
-{
-    if v < w {
-        return w;
-    }
-    v
+    entries
+        .iter()
+        .fold(Map::UNMAPPED, |lowest, e| lowest.min(*e))
+        == Map::UNMAPPED
 }
 
 /// Whether every byte is zero: the highest is.
 fn all_zero(rest: &[u8]) -> bool
     ensures { result ≡ all (eqb 0) rest.now }
 {
-    let mut highest: u8 = 0;
-    let mut i: usize = 0;
-    while i < rest.len() {
-        highest = higher(highest, rest[i]);
-        i += 1;
-    }
-    highest == 0
-}
-
-/// A byte as an index.
-fn wide(x: u8) -> usize
-    ensures { result ≡ x }
-{
-    x as usize
+    rest.iter().fold(0, |highest: u8, b| highest.max(*b)) == 0
 }
 
 /// Whether refusal 3 passes the data of a zone page.
@@ -96,19 +58,14 @@ pub fn zone_page_ok(g: Geometry, z: &[u8]) -> bool
     requires { (geometry_ok g ≡ true) × (length z.now ≡ 512) }
     ensures { result ≡ zone_page_ok g z.now }
 {
-    let na = wide(z[5]);
-    let nu = wide(z[6]);
-    let nf = wide(z[7]);
-    let n = na + nu + nf;
-    if n > (g.blocks as usize) - FRONT {
+    let na = z[5] as usize;
+    let nu = z[6] as usize;
+    let n = na + nu + z[7] as usize;
+    if n > g.blocks as usize - FRONT {
         return false;
     }
-    let a: usize = 8;
-    let e = a + n;
-    if !ranges::lists_ok(g, &z[a..e], na, nu, z[4]) {
-        return false;
-    }
-    all_zero(&z[e..])
+    let e = 8 + n;
+    ranges::lists_ok(g, &z[8..e], na, nu, z[4]) && all_zero(&z[e..])
 }
 
 /// Whether refusal 3 passes the map entries, used and unused.
@@ -119,10 +76,7 @@ pub fn entries_ok(g: Geometry, entries: &[u16]) -> bool
     ensures { result ≡ (map_ok g (take g.logical entries.now) && all (eqb unmapped) (drop g.logical entries.now)) }
 {
     let l = g.logical as usize;
-    if !ranges::map_ok(g, &entries[..l]) {
-        return false;
-    }
-    all_unmapped(&entries[l..])
+    ranges::map_ok(g, &entries[..l]) && all_unmapped(&entries[l..])
 }
 
 /// The zones in the data of a zone page.
@@ -130,12 +84,11 @@ pub fn zones_in(z: &[u8]) -> Zones
     requires { Counts z.now }
     ensures { result ≡ zones_in z.now }
 {
-    let a: usize = 8;
-    let u = a + wide(z[5]);
-    let f = u + wide(z[6]);
-    let e = f + wide(z[7]);
-    let available = blocks::of(&z[a..u]);
-    let unavailable = blocks::of(&z[u..f]);
-    let free = blocks::of(&z[f..e]);
+    let u = 8 + z[5] as usize;
+    let f = u + z[6] as usize;
+    let e = f + z[7] as usize;
+    let available = Blocks::of(&z[8..u]);
+    let unavailable = Blocks::of(&z[u..f]);
+    let free = Blocks::of(&z[f..e]);
     blocks::zones_of(available, unavailable, free, z[4])
 }

@@ -8,7 +8,7 @@ ghost use Rattle.model.specs.Frame.{free_place, fresh_state};
 ghost use Rattle.model.specs.Zones.{no_zones};
 
 /// The shape of a device: blocks, pages a block, logical pages, planes.
-#[derive(Clone, Copy)]
+#[derive(Clone, Copy, PartialEq, Eq)]
 pub struct Geometry {
     pub blocks: u16,
     pub pages: u16,
@@ -57,7 +57,7 @@ impl Map {
 
 /// The spare area of a page before Zeros: LPN, TxCnt, TxID, TxVer, Kind, Reserved.
 /// TxCnt is 0, or on a mark the number of all pages of its transaction; TxVer is 0 wherever TxCnt is, on data pages.
-#[derive(Clone, Copy)]
+#[derive(Clone, Copy, PartialEq, Eq)]
 pub struct Spare {
     pub lpn: u16,
     pub cnt: u16,
@@ -101,7 +101,7 @@ impl Spare {
 
 /// Erased: all 528 bytes 0xFF. Whole: otherwise, and Zeros agrees. Torn: neither; it belongs to nobody, and Zeros minus the zero bits counted
 /// says how torn it is.
-#[derive(Clone, Copy)]
+#[derive(Clone, Copy, PartialEq, Eq)]
 pub enum Class {
     Erased,
     Whole,
@@ -133,7 +133,7 @@ pub struct Zones {
 }
 
 /// The plane of the last data block page on a device of two planes; neither after format and recover.
-#[derive(Clone, Copy)]
+#[derive(Clone, Copy, PartialEq, Eq)]
 pub enum Plane {
     Neither,
     Even,
@@ -141,7 +141,7 @@ pub enum Plane {
 }
 
 /// The work under way. Format: strides done. Checkpoint: pages programmed. Reclaim picks anew at each stride.
-#[derive(Clone, Copy)]
+#[derive(Clone, Copy, PartialEq, Eq)]
 pub enum Work {
     Idle,
     Format(u16),
@@ -164,66 +164,29 @@ pub struct State {
     pub places: [Place; 8],
 }
 
-/// The refusals, by the trade's word for each.
-#[derive(Clone, Copy)]
+/// The refusals, by the trade's word for each, with their numbers in the table.
+#[derive(Clone, Copy, PartialEq, Eq)]
 pub enum Refusal {
-    BadFrame,
-    NoCheckpoint,
-    BadCheckpoint,
-    BadPage,
-    BadLogicalPage,
-    BadIdentifier,
-    IdentifierLive,
-    NotBegun,
-    PlacesFull,
-    TooLong,
-    BadLength,
-    ZoneShort,
-    VersionsSpent,
-    NeverWritten,
-    NoGain,
-    ReserveShort,
-    Busy,
+    BadFrame = 1,
+    NoCheckpoint = 2,
+    BadCheckpoint = 3,
+    BadPage = 4,
+    BadLogicalPage = 5,
+    BadIdentifier = 6,
+    IdentifierLive = 7,
+    NotBegun = 8,
+    PlacesFull = 9,
+    TooLong = 10,
+    BadLength = 11,
+    ZoneShort = 12,
+    VersionsSpent = 13,
+    NeverWritten = 14,
+    NoGain = 15,
+    ReserveShort = 16,
+    Busy = 17,
 }
 
-/// Their numbers in the table.
-impl Refusal {
-    pub const BAD_FRAME: u8 = 1;
-
-    pub const NO_CHECKPOINT: u8 = 2;
-
-    pub const BAD_CHECKPOINT: u8 = 3;
-
-    pub const BAD_PAGE: u8 = 4;
-
-    pub const BAD_LOGICAL_PAGE: u8 = 5;
-
-    pub const BAD_IDENTIFIER: u8 = 6;
-
-    pub const IDENTIFIER_LIVE: u8 = 7;
-
-    pub const NOT_BEGUN: u8 = 8;
-
-    pub const PLACES_FULL: u8 = 9;
-
-    pub const TOO_LONG: u8 = 10;
-
-    pub const BAD_LENGTH: u8 = 11;
-
-    pub const ZONE_SHORT: u8 = 12;
-
-    pub const VERSIONS_SPENT: u8 = 13;
-
-    pub const NEVER_WRITTEN: u8 = 14;
-
-    pub const NO_GAIN: u8 = 15;
-
-    pub const RESERVE_SHORT: u8 = 16;
-
-    pub const BUSY: u8 = 17;
-}
-
-#[derive(Clone, Copy)]
+#[derive(Clone, Copy, PartialEq, Eq)]
 pub enum Answer {
     Done,
     More,

@@ -2,4 +2,3 @@ pub mod Words
 pub mod Storing
 pub mod Difference
 pub mod Taken
-pub mod Filled

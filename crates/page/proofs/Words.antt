@@ -3,7 +3,7 @@
 use mathlib.Core.Path.{◌≡◌, refl, sym, ap, ◌∙◌}
 use mathlib.Core.List.{List}
 use mathlib.Core.Bool.{Bool, true, false, cond}
-use Prim.Native.Nat.{ℕ, suc, ◌+◌, ◌-◌, ◌*◌, ◌≤◌, ◌<◌}
+use Prim.Native.Nat.{ℕ, suc, ◌+◌, ◌-◌, ◌*◌, ◌≤◌, ◌<◌, ◌^◌, ◌/◌, ◌%◌, zero}
 use native.Mathlib.Omega.{arith}
 use native.Mathlib.Numerals.{add-one}
 use lib.ListN.{length, take, drop, get_or, length-take}
@@ -11,7 +11,9 @@ use lib.Seq.{take-suc, drop-cons}
 use lib.Dec.{eqb}
 use lib.Bits.{bit_and, and_le_l, and_le_r, and_self}
 use borrow.Author.Tests.{eqb-true, eqb-false, eq-eqb, ne_eqb}
-use lib.Count.{ones, ones-le, ones_cat}
+use lib.Count.{ones, ones-le, ones_cat, ones_step}
+use mir.Val.{bits}
+use Rattle.std.specs.Int.{Width, count_zeros}
 use Rattle.model.specs.Lists.{part}
 use Rattle.model.specs.Bytes.{zero_bits, all_ff, le16, le32}
 use Rattle.arrays.specs.Tests.{not_so}
@@ -24,6 +26,19 @@ use Rattle.page.specs.Counting.{spare_first}
 pub spare_first_le : (i : ℕ) (a : List ℕ) → spare_first i a ≤ 8 * (14 + i)
 unfolding spare_first part
 spare_first_le i a = omega (arith, zero_bits_le (take i a), length-take i a, zero_bits_le (take 14 (drop 512 a)), length-take 14 (drop 512 a))
+
+-- the zeros of a word are what its ones leave of its bits
+ones_not : (k n : ℕ) → n < 2 ^ k → ones (2 ^ k - 1 - n) + ones n ≡ k
+unfolding ones
+ones_not zero n h = let e : n ≡ 0 = omega arith in rw e
+ones_not (suc k) n h =
+    let m = 2 ^ suc k - 1 - n in
+    let half : m / 2 ≡ 2 ^ k - 1 - n / 2 = omega arith in
+    let last : m % 2 + n % 2 ≡ 1 = omega arith in
+    omega (arith, ones_not k (n / 2) (omega arith), ones_step m, ones_step n, ap ones half)
+
+pub zeros_of : (w : Width) (n : ℕ) → n < 2 ^ bits w → count_zeros w n + ones n ≡ bits w
+zeros_of w n h = ones_not (bits w) n h
 
 -- one byte more
 more8 : (a : List ℕ) (i : ℕ) → i < length a → zero_bits (take (i + 1) a) ≡ zero_bits (take i a) + (8 - ones (get_or a i 0))

@@ -11,19 +11,12 @@ ghost use Rattle.page.specs.Words.{le64, bytes64};
 
 use model::{Class, Spare};
 
-/// A byte as a number of 16 bits.
-fn wide(x: u8) -> u16
-    ensures { (result ≡ x) × (result < 256) }
-{
-    x as u16
-}
-
 /// The number of 2 bytes at a place.
 pub fn word16(page: &[u8], at: usize) -> u16
     requires { at + 2 ≤ length page.now }
     ensures { result ≡ le16 page.now at }
 {
-    wide(page[at]) + 256 * wide(page[at + 1])
+    u16::from_le_bytes([page[at], page[at + 1]])
 }
 
 /// The number of 4 bytes at a place.
@@ -31,9 +24,7 @@ pub fn word32(page: &[u8], at: usize) -> u32
     requires { at + 4 ≤ length page.now }
     ensures { result ≡ le32 page.now at }
 {
-    let low = word16(page, at) as u32;
-    let high = word16(page, at + 2) as u32;
-    low + 65536 * high
+    u32::from_le_bytes([page[at], page[at + 1], page[at + 2], page[at + 3]])
 }
 
 /// The number of 8 bytes at a place.
@@ -41,9 +32,16 @@ pub fn word64(page: &[u8], at: usize) -> u64
     requires { at + 8 ≤ length page.now }
     ensures { result ≡ le64 page.now at }
 {
-    let low = word32(page, at) as u64;
-    let high = word32(page, at + 4) as u64;
-    low + 4294967296 * high
+    u64::from_le_bytes([
+        page[at],
+        page[at + 1],
+        page[at + 2],
+        page[at + 3],
+        page[at + 4],
+        page[at + 5],
+        page[at + 6],
+        page[at + 7],
+    ])
 }
 
 /// Fills the numbers with those of 2 bytes from a place on.
@@ -51,10 +49,8 @@ pub fn words16(page: &[u8], at: usize, numbers: &mut [u16])
     requires { at + 2 * length numbers.old ≤ length page.now }
     ensures { numbers.new ≡ words (part at (2 * length numbers.old) page.now) }
 {
-    let mut i: usize = 0;
-    while i < numbers.len() {
-        numbers[i] = word16(page, at + 2 * i);
-        i += 1;
+    for (i, x) in numbers.iter_mut().enumerate() {
+        *x = word16(page, at + 2 * i);
     }
 }
 
@@ -63,10 +59,9 @@ fn spare_zeros(page: &[u8]) -> u32
     requires { length page.now ≡ 528 }
     ensures { result ≡ zero_bits (part 512 14 page.now) }
 {
-    let mut n = 64 - u64::count_ones(word64(page, Spare::LPN));
-    n += 32 - u32::count_ones(word32(page, Spare::VER));
-    n += 16 - u16::count_ones(word16(page, Spare::KIND));
-    n
+    word64(page, Spare::LPN).count_zeros()
+        + word32(page, Spare::VER).count_zeros()
+        + word16(page, Spare::KIND).count_zeros()
 }
 
 /// The zero bits of the 526 bytes before Zeros: the spare area's first, then those of the data, 64 words of 64 bits.
@@ -76,10 +71,8 @@ pub fn zeros(page: &[u8]) -> u16
 {
     let spare = spare_zeros(page);
     let mut data: u32 = 0;
-    let mut w = 0;
-    while w < 64 {
-        data += 64 - u64::count_ones(word64(page, w * 8));
-        w += 1;
+    for w in 0..64 {
+        data += word64(page, w * 8).count_zeros();
     }
     (spare + data) as u16
 }
@@ -89,16 +82,15 @@ pub fn erased(page: &[u8]) -> bool
     requires { length page.now ≡ 528 }
     ensures { result ≡ all_ff page.now }
 {
-    if word64(page, 0) != 0xFFFF_FFFF_FFFF_FFFF {
+    if word64(page, 0) != u64::MAX {
         return false;
     }
-    let mut common: u64 = 0xFFFF_FFFF_FFFF_FFFF;
-    let mut w = 0;
-    while w < 66 {
-        common = common & word64(page, w * 8);
-        w += 1;
+    // no way out of the loop: so several words are taken at once
+    let mut common = u64::MAX;
+    for w in 0..66 {
+        common &= word64(page, w * 8);
     }
-    common == 0xFFFF_FFFF_FFFF_FFFF
+    common == u64::MAX
 }
 
 /// The class of a page that is not erased, by its zero bits, counted: whole if Zeros agrees, otherwise torn by the difference.
@@ -108,12 +100,14 @@ pub fn classed(page: &[u8], counted: u16) -> Class
 {
     let stored = word16(page, Spare::ZEROS);
     if counted == stored {
-        return Class::Whole;
+        Class::Whole
+    } else {
+        Class::Torn(stored as i32 - counted as i32)
     }
-    Class::Torn(stored as i32 - counted as i32)
 }
 
 /// Erased, otherwise whole if Zeros agrees, otherwise torn.
+#[tactic(auto, unfolding(model::specs::Page::class_of))]
 pub fn classify(page: &[u8]) -> Class
     requires { length page.now ≡ 528 }
     ensures { result ≡ class_of page.now }
@@ -125,6 +119,7 @@ pub fn classify(page: &[u8]) -> Class
 }
 
 /// The spare area before Zeros.
+#[tactic(auto, unfolding(model::specs::Page::spare_of))]
 pub fn read_spare(page: &[u8]) -> Spare
     requires { length page.now ≡ 528 }
     ensures { result ≡ spare_of page.now }
@@ -154,22 +149,14 @@ pub fn number(c: Class) -> u8
 pub fn is_whole(c: Class) -> bool
     ensures { result ≡ is_whole c }
 {
-    match c {
-        Class::Erased => false,
-        Class::Whole => true,
-        Class::Torn(_) => false,
-    }
+    matches!(c, Class::Whole)
 }
 
 /// Whether a class is torn.
 pub fn is_torn(c: Class) -> bool
     ensures { result ≡ is_torn c }
 {
-    match c {
-        Class::Erased => false,
-        Class::Whole => false,
-        Class::Torn(_) => true,
-    }
+    matches!(c, Class::Torn(_))
 }
 
 /// Stores a number of 2 bytes at a place.
@@ -177,8 +164,7 @@ pub fn put16(page: &mut [u8], at: usize, x: u16)
     requires { at + 2 ≤ length page.old }
     ensures { page.new ≡ sets page.old at (bytes16 x) }
 {
-    page[at] = (x % 256) as u8;
-    page[at + 1] = (x / 256) as u8;
+    page[at..at + 2].copy_from_slice(&x.to_le_bytes());
 }
 
 /// Stores a number of 4 bytes at a place.
@@ -186,8 +172,7 @@ pub fn put32(page: &mut [u8], at: usize, x: u32)
     requires { at + 4 ≤ length page.old }
     ensures { page.new ≡ sets page.old at (bytes32 x) }
 {
-    put16(page, at, (x % 65536) as u16);
-    put16(page, at + 2, (x / 65536) as u16);
+    page[at..at + 4].copy_from_slice(&x.to_le_bytes());
 }
 
 /// Stores a number of 8 bytes at a place.
@@ -195,8 +180,7 @@ fn put64(page: &mut [u8], at: usize, x: u64)
     requires { at + 8 ≤ length page.old }
     ensures { page.new ≡ sets page.old at (bytes64 x) }
 {
-    put32(page, at, (x % 4294967296) as u32);
-    put32(page, at + 4, (x / 4294967296) as u32);
+    page[at..at + 8].copy_from_slice(&x.to_le_bytes());
 }
 
 /// Stores the 14 bytes of the spare area before Zeros, in the words in which `spare_zeros` reads them: a word whose parts were just stored is slow to read.
@@ -215,7 +199,7 @@ pub fn program(page: &mut [u8], data: &[u8], s: Spare)
     requires { (length page.old ≡ 528) × (length «data».now ≡ 512) }
     ensures { page.new ≡ page_bytes «data».now s }
 {
-    let n = octets::copy(data, page);
+    page[..Spare::DATA].copy_from_slice(data);
     put_spare(page, s);
     let z = zeros(page);
     put16(page, Spare::ZEROS, z);
@@ -225,9 +209,5 @@ pub fn program(page: &mut [u8], data: &[u8], s: Spare)
 pub fn erase(block: &mut [u8])
     ensures { block.new ≡ replicate (length block.old) 255 }
 {
-    let mut i = 0;
-    while i < block.len() {
-        block[i] = 255;
-        i += 1;
-    }
+    block.fill(255);
 }

@@ -6,8 +6,10 @@ ghost use Rattle.std.specs.Prelude.{◌≡◌, length, replicate};
 ghost use Rattle.pageffi.specs.Numbers.{classed, programmed};
 
 use model::Spare;
+use table::Table;
 
 /// The class of a page: 0 erased, 1 whole, 2 torn, 3 where the part is not 528 bytes long.
+#[tactic(auto, unfolding(crate::specs::Numbers::classed))]
 #[unsafe(no_mangle)]
 pub extern "C" fn pageffi_class(page: &[u8]) -> u8
     ensures { result ≡ classed page.now }
@@ -19,6 +21,7 @@ pub extern "C" fn pageffi_class(page: &[u8]) -> u8
 }
 
 /// The same, its zero bits counted by the table, as recovery counts them.
+#[tactic(auto, unfolding(crate::specs::Numbers::classed))]
 #[unsafe(no_mangle)]
 pub extern "C" fn pageffi_class_by_table(page: &[u8]) -> u8
     ensures { result ≡ classed page.now }
@@ -26,11 +29,12 @@ pub extern "C" fn pageffi_class_by_table(page: &[u8]) -> u8
     if page.len() != Spare::PAGE {
         return 3;
     }
-    let table = table::table();
-    page::number(table::classify(page, &table))
+    let table = Table::new();
+    page::number(table.classify(page))
 }
 
 /// Programs a page with 512 bytes of data and this spare area.
+#[tactic(auto, unfolding(crate::specs::Numbers::programmed))]
 #[unsafe(no_mangle)]
 pub extern "C" fn pageffi_program(
     page: &mut [u8],
@@ -42,24 +46,18 @@ pub extern "C" fn pageffi_program(
 )
     ensures { page.new ≡ programmed page.old «data».now (record { lpn = lpn; cnt = cnt; id = id; ver = ver; kind = 0; reserved = 0 }) }
 {
-    if page.len() != Spare::PAGE {
+    if page.len() != Spare::PAGE || data.len() != Spare::DATA {
         return;
     }
-    if data.len() != Spare::DATA {
-        return;
-    }
-    page::program(
-        page,
-        data,
-        Spare {
-            lpn: lpn,
-            cnt: cnt,
-            id: id,
-            ver: ver,
-            kind: Spare::DATA_KIND,
-            reserved: 0,
-        },
-    );
+    let spare = Spare {
+        lpn,
+        cnt,
+        id,
+        ver,
+        kind: Spare::DATA_KIND,
+        reserved: 0,
+    };
+    page::program(page, data, spare);
 }
 
 /// Erases a block.

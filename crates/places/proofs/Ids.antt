@@ -1,18 +1,23 @@
--- The identifiers of the places say which is active: `active_in` of `ids_of` is `active`. Assumes nothing.
+-- The identifiers of the places say which is active: `active_in` of `ids_of` is `active`; and which place is found. Assumes nothing.
 use mathlib.Core.Path.{◌≡◌, refl, ap, ◌∙◌}
 use mathlib.Core.Bool.{Bool, true, false, not, cond, ◌&&◌, ◌||◌}
-use mathlib.Core.List.{List, [], ◌∷◌, ◌++◌, append_assoc, append-nil}
-use Prim.Native.Nat.{ℕ, zero, suc, ◌+◌, ◌<◌}
-use native.Mathlib.Numerals.{add-one}
+use mathlib.Core.Logic.{inl, inr}
+use mathlib.Core.List.{List, [], ◌∷◌}
+use Prim.Native.Nat.{ℕ, zero, suc, ◌+◌, ◌≤◌, ◌<◌}
 use native.Mathlib.Omega.{arith}
-use lib.ListN.{length, get_or, set, take, drop, drop_of_length-le}
-use lib.Seq.{drop-cons, take-suc, set_at, take_all, length-take-le}
+use denote.Param.Members.{Mut}
+use lib.ListN.{length, get_or}
 use lib.Dec.{eqb, ltb}
 use borrow.Author.Tests.{lt-ltb, le-ltb, ltb-true, ltb-false}
+use Rattle.std.specs.Prelude.{Option, Some, None, is_some}
+use Rattle.std.specs.Fn.{Called}
+use Rattle.std.specs.Array.{IsFromFnResultFrom}
+use Rattle.arrays.specs.Tests.{Is, eqb_cases}
+use Rattle.model.specs.Transactions.{place_of}
 use Rattle.model.specs.Lists.{any, find}
 use Rattle.model.specs.Zones.{has_id, active}
 use Rattle.model.specs.declared.Place.{Place}
-use Rattle.places.specs.Ids.{ids_of, is_id, active_in}
+use Rattle.places.specs.Ids.{ids_of, is_id, active_in, place_at}
 
 pub length_ids : (ps : List Place) → length (ids_of ps) ≡ length ps
 unfolding ids_of
@@ -30,11 +35,6 @@ unfolding any ids_of
 any_ids id [] = refl
 any_ids id (p ∷ ps) = ap (λ (t : Bool). eqb p.id id || t) (any_ids id ps)
 
-pub find_ids : (id : ℕ) (ps : List Place) → find (is_id id) (ids_of ps) ≡ find (has_id id) ps
-unfolding find ids_of
-find_ids id [] = refl
-find_ids id (p ∷ ps) = ap (λ (n : ℕ). cond (eqb p.id id) 0 (suc n)) (find_ids id ps)
-
 pub active_ids : (id : ℕ) (ps : List Place) → active_in id (ids_of ps) ≡ active id ps
 unfolding active_in active
 active_ids id ps = ap (λ (t : Bool). not (eqb id 0) && t) (any_ids id ps)
@@ -50,15 +50,45 @@ find_any p (x ∷ xs) = go (p x) (ltb (find p xs) (length xs)) refl (find_any p 
     go false true e h = let l = ltb-true (find p xs) (length xs) e in lt-ltb (suc (find p xs)) (suc (length xs)) (omega arith) ∙ h
     go false false e h = let l = ltb-false (find p xs) (length xs) e in le-ltb (suc (find p xs)) (suc (length xs)) (omega arith) ∙ h
 
--- ---- the identifiers copied into a list, one after the other
-abbrev pub copied : List Place → List ℕ → ℕ → List ℕ
-copied ps ids i = take i (ids_of ps) ++ drop i ids
+-- an identifier is active where it has a place
+pub place_active : (id : ℕ) (ps : List Place) → length ps ≡ 8 → is_some (place_at (place_of ps id)) ≡ active id ps
+unfolding place_at place_of active
+place_active id ps e = go (eqb id 0) (find (has_id id) ps) (any (has_id id) ps) (rw e at (find_any {A = Place} (has_id id) ps))
+  where
+    some : (t : Bool) (n : ℕ) → is_some (cond t (Some n) None) ≡ t
+    some true n = refl
+    some false n = refl
 
-pub copied_more : (ps : List Place) (d : Place) (ids now : List ℕ) (i : ℕ) → i < length ps → i < length ids → now ≡ copied ps ids i → set now i (get_or ps i d).id ≡ copied ps ids (i + 1)
-copied_more ps d ids now i h k e =
-    rw (e, ← ids_at ps i d h, drop-cons ids i 0 k, add-one, take-suc (ids_of ps) i 0 (rw length_ids h), append_assoc)
-    (set_at (take i (ids_of ps)) (get_or ids i 0) (drop (suc i) ids) (get_or (ids_of ps) i 0) i (length-take-le i (ids_of ps) (rw length_ids (omega arith))))
+    go : (b : Bool) (n : ℕ) (u : Bool) → ltb n 8 ≡ u → is_some (cond (ltb (cond b 8 n) 8) (Some (cond b 8 n)) None) ≡ (not b && u)
+    go true n u h = refl
+    go false n u h = some (ltb n 8) n ∙ h
 
-pub copied_all : (ps : List Place) (ids now : List ℕ) (i : ℕ) → length ps ≡ i → length ids ≡ i → now ≡ copied ps ids i → now ≡ ids_of ps
-copied_all ps ids now i h k e =
-    e ∙ rw (take_all i (ids_of ps) (rw length_ids (omega arith)), drop_of_length-le ids {i = i} (omega arith)) (append-nil (ids_of ps))
+-- what is found by its index
+pub place_known : (n i : ℕ) → Some i ≡ place_at n → (i ≡ n) × (n < 8)
+unfolding place_at
+place_known n i e = go (ltb n 8) refl e
+  where
+    go : (t : Bool) → ltb n 8 ≡ t → Some i ≡ cond t (Some n) None → (i ≡ n) × (n < 8)
+    go true l e = (cc, ltb-true n 8 l)
+    go false l e = absurd (cc)
+
+pub place_none : (n : ℕ) → None ≡ place_at n → 8 ≤ n
+unfolding place_at
+place_none n e = go (ltb n 8) refl e
+  where
+    go : (t : Bool) → ltb n 8 ≡ t → ◌≡◌ {A = Option ℕ} None (cond t (Some n) None) → 8 ≤ n
+    go true l e = absurd (cc)
+    go false l e = ltb-false n 8 l
+
+-- ---- an array that a closure makes, where each call gives what v says and leaves the closure as it was
+module _ {F : Type 0} (g : Mut F (ℕ × Unit {0}) ℕ) (v : ℕ → ℕ) (f : F) (ys : List ℕ) (gives : (x y : ℕ) (q : F) → Called g f (x, tt) y q → (q ≡ f) × (y ≡ v x)) where
+  pub made_at : (i n k : ℕ) → IsFromFnResultFrom g f ys i n → i ≤ k → k < i + n → get_or ys k 0 ≡ v k
+  made_at i zero k r l h = absurd (omega arith)
+  made_at i (suc n) k r l h = go (eqb_cases i k) (λ m. made_at (i + 1) n k (rw own.0 at r.4) m (omega arith))
+    where
+      own : (r.0 ≡ f) × (r.1 ≡ v i)
+      own = gives i r.1 r.0 r.3
+
+      go : Is i k → (i + 1 ≤ k → get_or ys k 0 ≡ v k) → get_or ys k 0 ≡ v k
+      go (inl e) later = rw (← e.0) (r.2.1 0 ∙ own.1)
+      go (inr e) later = let d = e.0 in later (omega (arith, d))

@@ -19,69 +19,48 @@ const FIRST: u8 = Geometry::FRONT_BLOCKS as u8;
 fn planes_ok(planes: u16) -> bool
     ensures { result ≡ (eqb planes 1 || eqb planes 2) }
 {
-    if planes == 1 {
-        return true;
-    }
-    planes == 2
+    planes == 1 || planes == 2
 }
 
 /// Whether a geometry is in range.
+// no type of its own for one in range: a state keeps the plain record, zeros before a format, and each command tests it once
+#[tactic(auto, unfolding(model::specs::Geometry::geometry_ok))]
 pub fn geometry_ok(g: Geometry) -> bool
     ensures { result ≡ geometry_ok g }
 {
-    if g.blocks < Geometry::MIN_BLOCKS {
-        return false;
-    }
-    if g.blocks > Geometry::MAX_BLOCKS {
-        return false;
-    }
-    if g.pages < Geometry::MIN_PAGES {
-        return false;
-    }
-    if g.pages > Geometry::MAX_PAGES {
-        return false;
-    }
-    if g.logical < 1 {
-        return false;
-    }
-    if g.logical > Geometry::MAX_LOGICAL {
-        return false;
-    }
-    if g.logical > (g.blocks - Geometry::SPARE_BLOCKS) * g.pages {
-        return false;
-    }
-    planes_ok(g.planes)
+    g.blocks >= Geometry::MIN_BLOCKS
+        && g.blocks <= Geometry::MAX_BLOCKS
+        && g.pages >= Geometry::MIN_PAGES
+        && g.pages <= Geometry::MAX_PAGES
+        && g.logical >= 1
+        && g.logical <= Geometry::MAX_LOGICAL
+        && g.logical <= (g.blocks - Geometry::SPARE_BLOCKS) * g.pages
+        && planes_ok(g.planes)
 }
 
 /// Whether the lent buffers have the lengths that a geometry asks.
+#[tactic(auto, unfolding(model::specs::Geometry::lengths_ok))]
 pub fn lengths_ok(g: Geometry, array: &[u8], map: &[u16], hold: &[u8]) -> bool
     ensures { result ≡ lengths_ok g array.now map.now hold.now }
 {
-    let bytes = (g.blocks as usize) * (g.pages as usize) * Spare::PAGE;
-    if array.len() != bytes {
-        return false;
-    }
-    if map.len() != g.logical as usize {
-        return false;
-    }
-    hold.len() == State::HOLD
+    array.len() == usize::from(g.blocks) * usize::from(g.pages) * Spare::PAGE
+        && map.len() == usize::from(g.logical)
+        && hold.len() == State::HOLD
 }
 
 /// Whether geometry and lengths are in range: all that recover looks at for refusal 1.
 pub fn lent_ok(g: Geometry, array: &[u8], map: &[u16], hold: &[u8]) -> bool
     ensures { result ≡ (geometry_ok g && lengths_ok g array.now map.now hold.now) }
 {
-    if !geometry_ok(g) {
-        return false;
-    }
-    lengths_ok(g, array, map, hold)
+    geometry_ok(g) && lengths_ok(g, array, map, hold)
 }
 
 /// The map pages of a checkpoint.
+#[tactic(auto, unfolding(model::specs::Geometry::map_pages))]
 pub fn map_pages(g: Geometry) -> usize
     ensures { result ≡ map_pages g }
 {
-    (g.logical as usize + 255) / Map::ENTRIES_A_PAGE
+    usize::from(g.logical).div_ceil(Map::ENTRIES_A_PAGE)
 }
 
 /// Whether every entry is unmapped, or at least lo, below hi and new.
@@ -90,24 +69,15 @@ fn entries_ok(map: &[u16], lo: usize, hi: usize) -> bool
     ensures { result ≡ all_heads (entry_within lo hi) [] map.now }
 {
     let mut seen = [false; 8192];
-    let mut i: usize = 0;
-    while i < map.len() {
-        let x = map[i] as usize;
-        if x == 0xFFFF {
-            i += 1;
+    for &x in map {
+        if x == Map::UNMAPPED {
             continue;
         }
-        if x < lo {
+        let k = usize::from(x);
+        if k < lo || k >= hi || seen[k] {
             return false;
         }
-        if x >= hi {
-            return false;
-        }
-        if seen[x] {
-            return false;
-        }
-        seen[x] = true;
-        i += 1;
+        seen[k] = true;
     }
     true
 }
@@ -117,32 +87,24 @@ pub fn map_ok(g: Geometry, map: &[u16]) -> bool
     requires { geometry_ok g ≡ true }
     ensures { result ≡ map_ok g map.now }
 {
-    let lo = FRONT * (g.pages as usize);
-    let hi = (g.blocks as usize) * (g.pages as usize);
-    entries_ok(map, lo, hi)
+    let pages = usize::from(g.pages);
+    entries_ok(map, FRONT * pages, usize::from(g.blocks) * pages)
 }
 
 /// Whether each is a data block that did not come before.
+// apart from entries_ok: no number stands for none, and one function for both would want a trait for the width of the numbers
 fn blocks_new(g: Geometry, list: &[u8]) -> bool
     requires { geometry_ok g ≡ true }
     ensures { result ≡ all_heads (new_block g) [] list.now }
 {
-    let hi = g.blocks as usize;
+    let hi = usize::from(g.blocks);
     let mut seen = [false; 128];
-    let mut i: usize = 0;
-    while i < list.len() {
-        let b = list[i] as usize;
-        if b < FRONT {
-            return false;
-        }
-        if b >= hi {
-            return false;
-        }
-        if seen[b] {
+    for &b in list {
+        let b = usize::from(b);
+        if b < FRONT || b >= hi || seen[b] {
             return false;
         }
         seen[b] = true;
-        i += 1;
     }
     true
 }
@@ -151,14 +113,7 @@ fn blocks_new(g: Geometry, list: &[u8]) -> bool
 fn is_rising(list: &[u8]) -> bool
     ensures { result ≡ rising list.now }
 {
-    let mut i: usize = 1;
-    while i < list.len() {
-        if list[i] <= list[i - 1] {
-            return false;
-        }
-        i += 1;
-    }
-    true
+    list.is_sorted_by(|a, b| a < b)
 }
 
 /// Whether zone lists that stand one after the other are in range: na available, nu unavailable, the others free.
@@ -166,20 +121,11 @@ pub fn lists_ok(g: Geometry, list: &[u8], na: usize, nu: usize, pointer: u8) -> 
     requires { Laid g list.now na nu }
     ensures { result ≡ zone_lists_ok g na nu (length list.now - (na + nu)) (take na list.now) (take nu (drop na list.now)) (drop (na + nu) list.now) pointer }
 {
-    if na > 3 {
-        return false;
-    }
-    if !blocks_new(g, list) {
-        return false;
-    }
-    let at = na + nu;
-    if !is_rising(&list[at..]) {
-        return false;
-    }
-    if pointer < FIRST {
-        return false;
-    }
-    (pointer as u16) < g.blocks
+    na <= 3
+        && blocks_new(g, list)
+        && is_rising(&list[na + nu..])
+        && pointer >= FIRST
+        && u16::from(pointer) < g.blocks
 }
 
 /// Whether the zone lists and the pointer are in range.
@@ -187,17 +133,11 @@ pub fn zones_ok(g: Geometry, z: Zones) -> bool
     requires { geometry_ok g ≡ true }
     ensures { result ≡ zones_ok g z }
 {
-    let na = z.na as usize;
-    let nu = z.nu as usize;
-    let nf = z.nf as usize;
-    if na + nu + nf > (g.blocks as usize) - FRONT {
+    let na = usize::from(z.na);
+    let nu = usize::from(z.nu);
+    let nf = usize::from(z.nf);
+    if na + nu + nf > usize::from(g.blocks) - FRONT || na > 3 {
         return false;
     }
-    if na > 3 {
-        return false;
-    }
-    let all = blocks::listed(z);
-    let list = all.list;
-    let n = all.n;
-    lists_ok(g, &list[..n], na, nu, z.pointer)
+    lists_ok(g, blocks::listed(z).as_slice(), na, nu, z.pointer)
 }

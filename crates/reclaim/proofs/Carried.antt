@@ -1,11 +1,11 @@
 -- What the calls of a stride of reclaim do is its plan carried out, whatever the hold. Assumes nothing.
 use mathlib.Core.Path.{◌≡◌, refl, sym, ap, ◌∙◌}
 use mathlib.Core.Bool.{true}
-use mathlib.Core.List.{List, [], ◌++◌, append-nil}
+use mathlib.Core.List.{List}
 use Prim.Native.Nat.{ℕ, ◌+◌, ◌-◌, ◌*◌, ◌≤◌, ◌<◌}
 use native.Mathlib.Omega.{arith}
-use lib.ListN.{length, take, drop, length-take, length-drop, drop_of_length-le}
-use lib.Seq.{take-take, take_all}
+use lib.ListN.{take, drop}
+use lib.Seq.{take-take}
 use lib.Dec.{eqb}
 use borrow.Author.Tests.{le-leb, lt-leb, ne_eqb}
 use Rattle.model.specs.Lists.{find, part}
@@ -23,18 +23,14 @@ use Rattle.model.specs.declared.Zones.{Zones}
 use Rattle.change.specs.Changes.{next_of, LonePut}
 use Rattle.change.proofs.Carrying.{last_on, lone_done}
 use Rattle.strides.specs.Strode.{Strode}
-use Rattle.reclaim.specs.Copies.{copies_checks, own_checks, Looked, Going}
+use Rattle.reclaim.specs.Copies.{copies_checks, own_checks, Going}
 
--- the data of page j, copied over 512 bytes
-pub data_copied : (xs : List ℕ) (j to : ℕ) (src d z : List ℕ) → j * 528 + 528 ≤ length xs → to ≡ j * 528 + 512 → src ≡ take (to - j * 528) (drop (j * 528) xs)
-    → length z ≡ 512 → d ≡ take (length src) src ++ drop (length src) z → d ≡ data_at xs j
+-- the data of page j, as a part of the array
+pub data_copied : (xs : List ℕ) (j to : ℕ) → to ≡ j * 528 + 512 → take (to - j * 528) (drop (j * 528) xs) ≡ data_at xs j
 unfolding data_at page_at part
-data_copied xs j to src d z h t s l e =
+data_copied xs j to t =
     let k : to - j * 528 ≡ 512 = omega arith in
-    let f : src ≡ take 512 (drop (j * 528) xs) = rw k at s in
-    let n : length src ≡ 512 = rw f (simp (length-take, length-drop) (omega arith)) in
-    let w : drop 512 z ≡ [] = drop_of_length-le z {i = 512} (omega arith) in
-    rw (n, w, append-nil, take_all 512 src (omega arith), f) at e ∙ sym (take-take 512 528 (drop (j * 528) xs) (omega arith))
+    rw k (sym (take-take 512 528 (drop (j * 528) xs) (omega arith)))
 
 module _ (s : State) (xs map : List ℕ) where
   -- ---- page j copied as a lone page, k being the next page
@@ -70,17 +66,17 @@ module _ (s : State) (xs map : List ℕ) where
 -- ---- what refuses a reclaim
 module _ (w : World) where
   -- no block is picked
-  pub none_gains : picked w ≡ nothing → (b copies : ℕ) → Looked w (own_checks w) 15 b copies
+  pub none_gains : picked w ≡ nothing → 15 ≡ first_number (own_checks w)
   unfolding first_number
-  none_gains e b copies = record { refusal = rw e; taken = λ z. absurd (omega (arith, z)) }
+  none_gains e = rw e
 
   module _ (b copies : ℕ) (taken : picked w ≡ at b) (due : copies ≡ mapped_in w.map w.state.geometry.pages b) where
     -- every page of it is mapped
-    pub block_gains_nothing : w.state.geometry.pages ≤ copies → Looked w (own_checks w) 15 b copies
+    pub block_gains_nothing : w.state.geometry.pages ≤ copies → 15 ≡ first_number (own_checks w)
     unfolding first_number
-    block_gains_nothing h = record { refusal = rw (taken, ← due, le-leb w.state.geometry.pages copies h); taken = λ z. absurd (omega (arith, z)) }
+    block_gains_nothing h = rw (taken, ← due, le-leb w.state.geometry.pages copies h)
 
     -- else the copies due decide
-    pub block_looked : copies < w.state.geometry.pages → (n : ℕ) → n ≡ first_number (copies_checks w.state w.array copies) → Looked w (own_checks w) n b copies
+    pub block_looked : copies < w.state.geometry.pages → first_number (own_checks w) ≡ first_number (copies_checks w.state w.array copies)
     unfolding first_number
-    block_looked h n e = record { refusal = rw (taken, ← due, lt-leb w.state.geometry.pages copies h) e; taken = λ z. (taken, due) }
+    block_looked h = rw (taken, ← due, lt-leb w.state.geometry.pages copies h)

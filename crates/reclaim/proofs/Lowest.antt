@@ -1,5 +1,7 @@
 -- The lowest mapped page of some: what a turn of the loop that looks for it shows, and where it lies. Assumes nothing.
 use mathlib.Core.Path.{◌≡◌, refl, sym, ap, ◌∙◌}
+use Rattle.std.specs.Prelude.{Some, None, position, unwrap_or}
+use Rattle.std.specs.List.{position_or_len}
 use mathlib.Core.Bool.{Bool, true, false, cond, ◌&&◌}
 use mathlib.Core.List.{List, [], ◌∷◌}
 use mathlib.Core.Logic.{◌⊎◌, inl, inr}
@@ -8,14 +10,33 @@ use native.Mathlib.Omega.{arith}
 use lib.ListN.{length, get_or}
 use lib.Dec.{eqb, leb, ltb}
 use borrow.Author.Count.{below_more}
-use borrow.Author.Tests.{eq-eqb, eqb-true, leb-true, ltb-true, ltb-false, le-leb}
+use borrow.Author.Tests.{eq-eqb, ne_eqb, eqb-true, leb-true, ltb-true, ltb-false, le-leb}
 use Rattle.model.specs.Lists.{any, find, elem, count}
 use Rattle.model.specs.Strides.{mapped_in, lowest_from}
-use Rattle.arrays.specs.Tests.{Is, eqb_cases, clash, not_so, and_left, and_right, or_right, or_left, find_passes}
+use Rattle.arrays.specs.Tests.{Is, eqb_cases, clash, not_so, and_left, and_right, or_right, or_left, find_passes, find_le}
+use Rattle.arrays.specs.Chains.{find_like}
 use Rattle.places.proofs.Ids.{find_any}
 use Rattle.reclaim.proofs.Counting.{in_block, mapped_is}
 
 -- ---- what is among some numbers
+-- either side of the test
+turned : (x y : ℕ) → eqb x y ≡ eqb y x
+turned x y = go (eqb_cases x y)
+  where
+    go : Is x y → eqb x y ≡ eqb y x
+    go (inl (e, t)) = t ∙ sym (eq-eqb y x (sym e))
+    go (inr (e, f)) = f ∙ sym (ne_eqb y x (λ (h : y ≡ x). e (sym h)))
+
+-- the first place of x, or the length, as the library has it
+pub first_place : (x : ℕ) (xs : List ℕ) → unwrap_or (position (λ y. eqb y x) xs) (length xs) ≡ find (eqb x) xs
+first_place x xs =
+    let e : position_or_len (λ y. eqb y x) xs ≡ find (eqb x) xs = find_like (λ y. eqb y x) (eqb x) (λ y. turned y x) xs in
+    rw e (go (ltb (find (eqb x) xs) (length xs)) refl)
+  where
+    go : (t : Bool) → ltb (find (eqb x) xs) (length xs) ≡ t → unwrap_or (cond t (Some (find (eqb x) xs)) None) (length xs) ≡ find (eqb x) xs
+    go true t = refl
+    go false t = omega (arith, ltb-false (find (eqb x) xs) (length xs) t, find_le (eqb x) xs)
+
 pub elem_found : (x : ℕ) (xs : List ℕ) → elem x xs ≡ true → find (eqb x) xs < length xs
 unfolding elem
 elem_found x xs h = ltb-true (find (eqb x) xs) (length xs) (find_any (eqb x) xs ∙ h)

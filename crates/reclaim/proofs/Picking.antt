@@ -1,12 +1,12 @@
 -- The block that a reclaim takes: what a turn of each loop that looks for it shows, and that it is checkpointed. Assumes nothing.
-use mathlib.Core.Path.{◌≡◌, refl, sym, ap, ◌∙◌}
+use mathlib.Core.Path.{◌≡◌, refl, sym, ◌∙◌}
 use mathlib.Core.Bool.{Bool, true, false, not, cond, ◌&&◌, ◌||◌}
 use mathlib.Core.Logic.{◌⊎◌, inl, inr}
 use mathlib.Core.List.{List, [], ◌∷◌, ◌++◌}
 use Prim.Native.Nat.{ℕ, zero, suc, ◌+◌, ◌-◌, ◌≤◌, ◌<◌}
 use native.Mathlib.Numerals.{add-one}
 use native.Mathlib.Omega.{arith}
-use lib.ListN.{length, drop, get_or, set, length-take, length-set, drop_of_length-le}
+use lib.ListN.{length, drop, get_or, set, length-set, drop_of_length-le}
 use lib.Seq.{drop-cons, get_or-set_same, get_or-set_other}
 use lib.Dec.{ltb, eqb}
 use borrow.Author.Tests.{lt-ltb, le-ltb}
@@ -20,21 +20,10 @@ use Rattle.model.specs.declared.Zones.{Zones}
 use Rattle.model.specs.declared.State.{State}
 use Rattle.arrays.specs.Tests.{Is, eqb_cases, decide, and_left, all_append, all_at}
 use Rattle.arrays.specs.Ranges.{geometry_in, block_most, block_is}
-use Rattle.blocks.specs.Blocks.{blocks_of, list_of}
-use Rattle.blocks.specs.declared.Blocks.{Blocks}
-use Rattle.blocks.proofs.Kept.{kept_list, kept_count}
 use Rattle.zones.proofs.Listed.{listed}
 use Rattle.reclaim.specs.Copies.{Counts, InTable, with_listed, looked}
 use Rattle.reclaim.proofs.Counting.{in_block, mapped_is, count_le}
 use Rattle.strides.specs.Strode.{Fit}
-
--- ---- the blocks that are listed, as they are kept
-module _ (r : Blocks) (xs : List ℕ) (e : r ≡ blocks_of xs) where
-  pub kept_length : r.n ≡ length (list_of r)
-  kept_length = kept_count r xs e ∙ sym (ap length (kept_list r xs e))
-
-  pub kept_inside : r.n ≤ length r.list
-  kept_inside = let l = kept_length in omega (arith, length-take r.n r.list)
 
 -- each has a count
 pub listed_in_law : (g : Geometry) (z : Zones) → geometry_ok g ≡ true → zones_ok g z ≡ true → InTable (listed_in z)

@@ -24,10 +24,10 @@ copies_checks s xs due =
 abbrev pub own_checks : World → List Check
 own_checks w = no_gain w ∷ versions_spent (not (eqb (copies_due w) 0)) w.state.version (copies_due w) ∷ reserve_short w ∷ []
 
--- n is what these checks refuse with, or 0; then block b is taken, with this number of copies due
-pub record Looked (w : World) (cs : List Check) (n b copies : ℕ) : Type 0 where
-  pub refusal : n ≡ first_number cs
-  pub taken : n ≡ 0 → (picked w ≡ at b) × (copies ≡ mapped_in w.map w.state.geometry.pages b)
+-- block b is taken, with this number of copies due
+pub record Taken (w : World) (b copies : ℕ) : Type 0 where
+  pub block : picked w ≡ at b
+  pub due : copies ≡ mapped_in w.map w.state.geometry.pages b
 
 -- nothing refuses a reclaim, which takes block b with this number of copies due
 pub record Going (s : State) (xs map : List ℕ) (b copies : ℕ) : Type 0 where

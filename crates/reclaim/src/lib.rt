@@ -1,7 +1,7 @@
 // Reclaim: the block that it takes, and its strides.
 #![tactic(auto)]
 
-ghost use Rattle.std.specs.Prelude.{◌≡◌, true, ◌&&◌, ◌-◌, ◌/◌, ◌≤◌, ◌<◌, length, eqb, leb, ltb};
+ghost use Rattle.std.specs.Prelude.{◌≡◌, true, ◌&&◌, ◌-◌, ◌/◌, ◌≤◌, ◌<◌, length, eqb, leb, ltb, IfOk};
 ghost use Rattle.model.specs.Lists.{find};
 ghost use Rattle.model.specs.Geometry.{data_block};
 ghost use Rattle.model.specs.Zones.{checkpointed};
@@ -12,11 +12,11 @@ ghost use Rattle.model.specs.Order.{first_number};
 ghost use Rattle.model.specs.Transactions.{with_version, with_last};
 ghost use Rattle.model.specs.Strides.{with_work, mapped_in, pick_from, picked, lowest_from, is_reclaim, copy_stride, free_stride, reclaim_stride};
 ghost use Rattle.model.specs.declared.Work.TheVariants.{Reclaim};
+ghost use Rattle.answers.specs.Refusals.{refusal_of};
 ghost use Rattle.checkpoint.specs.Found.{found_of};
 ghost use Rattle.strides.specs.Strode.{Strode, Fit};
-ghost use Rattle.reclaim.specs.Copies.{looked, copies_checks, own_checks, Looked, Going, Counts, InTable, with_listed, Pickable, Copying};
+ghost use Rattle.reclaim.specs.Copies.{looked, copies_checks, own_checks, Taken, Going, Counts, InTable, with_listed, Pickable, Copying};
 
-use checkpoint::Found;
 use model::{Answer, Geometry, Refusal, Spare, State, Work};
 use strides::Stride;
 
@@ -26,10 +26,9 @@ const FIRST: usize = Geometry::FRONT_BLOCKS as usize;
 /// What stands for a listed block among the counts: no block has as many mapped pages.
 const LISTED: u16 = 0xFFFF;
 
-/// The number that refuses a reclaim, or 0 and the block that it takes, with the copies due from it.
+/// The block that a reclaim takes, with the copies due from it.
 #[derive(Clone, Copy)]
 pub struct Due {
-    pub refusal: u8,
     pub block: usize,
     pub copies: usize,
 }
@@ -38,22 +37,14 @@ pub struct Due {
 pub fn is_reclaim(work: Work) -> bool
     ensures { result ≡ is_reclaim work }
 {
-    match work {
-        Work::Idle => false,
-        Work::Format(_) => false,
-        Work::Checkpoint(_) => false,
-        Work::Reclaim => true,
-    }
+    matches!(work, Work::Reclaim)
 }
 
 /// Whether an entry is a page from page lo on and below hi.
 fn in_range(e: u16, lo: usize, hi: usize) -> bool
     ensures { result ≡ (leb lo e && ltb e hi) }
 {
-    if (e as usize) < lo {
-        return false;
-    }
-    (e as usize) < hi
+    (lo..hi).contains(&(e as usize))
 }
 
 /// The mapped pages of block b.
@@ -64,8 +55,9 @@ fn mapped_in(map: &[u16], pages: usize, b: usize) -> usize
     let lo = b * pages;
     let hi = lo + pages;
     let mut n: usize = 0;
-    for i in 0..map.len() {
-        if in_range(map[i], lo, hi) {
+    // not `filter(..).count()`, which takes the entries one by one
+    for e in map {
+        if in_range(*e, lo, hi) {
             n += 1;
         }
     }
@@ -78,15 +70,11 @@ fn mapped(map: &[u16], pages: u16) -> [u16; 128]
     ensures { Counts map.now pages result }
 {
     let mut counts = [0u16; 128];
-    let mut i: usize = 0;
-    while i < map.len() {
-        let b = (map[i] / pages) as usize;
-        if b >= 128 {
-            i += 1;
-            continue;
+    for e in map {
+        let b = (*e / pages) as usize;
+        if b < 128 {
+            counts[b] += 1;
         }
-        counts[b] = counts[b] + 1;
-        i += 1;
     }
     counts
 }
@@ -97,37 +85,28 @@ fn with_listed(counts: [u16; 128], listed: &[u8]) -> [u16; 128]
     ensures { result ≡ with_listed listed.now counts }
 {
     let mut table = counts;
-    let mut i: usize = 0;
-    while i < listed.len() {
-        let b = listed[i] as usize;
-        table[b] = LISTED;
-        i += 1;
+    for b in listed {
+        table[*b as usize] = LISTED;
     }
     table
 }
 
 /// The checkpointed block with fewest mapped pages, the lowest of them.
-pub fn picked(s: State, map: &[u16]) -> Found
+pub fn picked(s: State, map: &[u16]) -> Option<usize>
     requires { Pickable s map.now }
     ensures { found_of result ≡ pick_from s.zones map.now s.geometry.pages 2 (s.geometry.blocks - 2) nothing }
 {
     let z = s.zones;
     let all = blocks::listed(z);
-    let list = all.list;
-    let n = all.n;
     let last = s.geometry.blocks as usize;
-    let counts = with_listed(mapped(map, s.geometry.pages), &list[..n]);
+    let counts = with_listed(mapped(map, s.geometry.pages), all.as_slice());
     let mut least = LISTED;
-    let mut best = Found::Nothing;
-    let mut b: usize = FIRST;
-    while b < last {
-        if counts[b] >= least {
-            b += 1;
-            continue;
+    let mut best: Option<usize> = None;
+    for b in FIRST..last {
+        if counts[b] < least {
+            least = counts[b];
+            best = Some(b);
         }
-        least = counts[b];
-        best = Found::At(b);
-        b += 1;
     }
     best
 }
@@ -138,10 +117,9 @@ fn lowest_from(map: &[u16], lo: usize, hi: usize) -> usize
     ensures { result ≡ lowest_from map.now lo (hi - lo) }
 {
     let mut least = hi;
-    for i in 0..map.len() {
-        let e = map[i];
-        if in_range(e, lo, least) {
-            least = e as usize;
+    for e in map {
+        if in_range(*e, lo, least) {
+            least = *e as usize;
         }
     }
     least
@@ -151,14 +129,7 @@ fn lowest_from(map: &[u16], lo: usize, hi: usize) -> usize
 fn find_page(map: &[u16], j: u16) -> usize
     ensures { result ≡ find (eqb j) map.now }
 {
-    let mut i: usize = 0;
-    while i < map.len() {
-        if map[i] == j {
-            return i;
-        }
-        i += 1;
-    }
-    map.len()
+    map.iter().position(|e| *e == j).unwrap_or(map.len())
 }
 
 /// The state when a page was copied to page k with version v. The planes are asked for here already: then one plane costs one copy.
@@ -182,9 +153,8 @@ fn copy_stride(s: State, array: &mut [u8], map: &mut [u16], j: usize) -> Stride
     let lpn = find_page(map, j as u16);
     let k = change::next_page(s, array);
     let from = j * Spare::PAGE;
-    let to = from + Spare::DATA;
     let mut d = [0u8; Spare::DATA];
-    let n = octets::copy(&array[from..to], &mut d);
+    d.copy_from_slice(&array[from..from + Spare::DATA]);
     let v = s.version + 1;
     change::put_lone(array, map, k, lpn as u16, v, &d);
     Stride {
@@ -208,61 +178,50 @@ fn free_stride(s: State, array: &mut [u8], map: &[u16], b: usize) -> Stride
     }
 }
 
-/// Of 13, 16, or 0: what refuses the copies due.
-fn copies_refusal(s: State, array: &[u8], due: usize) -> u8
+/// Whether the copies due find numbers and room: 13, 16.
+fn copies_refusal(s: State, array: &[u8], due: usize) -> Result<(), Refusal>
     requires { Ready s.geometry array.now s.zones × (due ≤ 64) }
-    ensures { result ≡ first_number (copies_checks s array.now due) }
+    ensures { refusal_of result ≡ first_number (copies_checks s array.now due) }
 {
     if due == 0 {
-        return 0;
+        return Ok(());
     }
     if s.version as usize + due > State::LAST_NUMBER as usize {
-        return Refusal::VERSIONS_SPENT;
+        return Err(Refusal::VersionsSpent);
     }
     let z = s.zones;
-    let a = z.available;
-    let na = z.na as usize;
-    if flash::clean_short(array, s.geometry.pages as usize, &a[..na], due) {
-        return Refusal::RESERVE_SHORT;
+    let available = &z.available[..z.na as usize];
+    if flash::clean_short(array, s.geometry.pages as usize, available, due) {
+        return Err(Refusal::ReserveShort);
     }
-    0
+    Ok(())
 }
 
-/// The same for block b, which is picked: 15, 13, 16, or 0.
-fn block_refusal(s: State, array: &[u8], map: &[u16], b: usize) -> Due
+/// What refuses a reclaim of block b, which is picked, 15, 13, 16, or that block with its copies.
+fn block_refusal(s: State, array: &[u8], map: &[u16], b: usize) -> Result<Due, Refusal>
     requires { Fit s array.now map.now × (picked (looked s array.now map.now) ≡ at b) }
-    ensures { Looked (looked s array.now map.now) (own_checks (looked s array.now map.now)) result.refusal result.block result.copies }
+    ensures refusal { refusal_of result ≡ first_number (own_checks (looked s array.now map.now)) }
+    ensures taken { IfOk result (λ d. Taken (looked s array.now map.now) d.block d.copies) }
 {
     let pages = s.geometry.pages as usize;
     let copies = mapped_in(map, pages, b);
     if copies >= pages {
-        return Due {
-            refusal: Refusal::NO_GAIN,
-            block: b,
-            copies,
-        };
+        return Err(Refusal::NoGain);
     }
-    Due {
-        refusal: copies_refusal(s, array, copies),
-        block: b,
-        copies,
-    }
+    copies_refusal(s, array, copies)?;
+    Ok(Due { block: b, copies })
 }
 
-/// What refuses a reclaim, 15, 13, 16, or 0; and where it is 0 the block that is taken and the copies due from it.
-pub fn refusal(s: State, array: &[u8], map: &[u16]) -> Due
+/// What refuses a reclaim, 15, 13, 16, or the block that it takes with the copies due from it.
+pub fn refusal(s: State, array: &[u8], map: &[u16]) -> Result<Due, Refusal>
     requires { Fit s array.now map.now }
-    ensures { Looked (looked s array.now map.now) (own_checks (looked s array.now map.now)) result.refusal result.block result.copies }
+    ensures refusal { refusal_of result ≡ first_number (own_checks (looked s array.now map.now)) }
+    ensures taken { IfOk result (λ d. Taken (looked s array.now map.now) d.block d.copies) }
 {
-    let found = picked(s, map);
-    match found {
-        Found::Nothing => Due {
-            refusal: Refusal::NO_GAIN,
-            block: 0,
-            copies: 0,
-        },
-        Found::At(b) => block_refusal(s, array, map, b),
-    }
+    let Some(b) = picked(s, map) else {
+        return Err(Refusal::NoGain);
+    };
+    block_refusal(s, array, map, b)
 }
 
 /// A stride on block b, which is taken: a copy while any is due.

@@ -4,8 +4,8 @@ use mathlib.Core.List.{List, ◌++◌}
 use Prim.Native.Nat.{ℕ, zero, suc, ◌+◌, ◌-◌, ◌*◌, ◌≤◌, ◌<◌}
 use native.Mathlib.Omega.{arith}
 use native.Mathlib.Nat.{add-sub_cancel_left, mul-le-mul_right}
-use lib.ListN.{length, take, drop, replicate, length-append}
-use lib.Seq.{take-take, take_at}
+use lib.ListN.{length, take, drop, replicate, length-append, length-replicate, replicate-append-replicate}
+use lib.Seq.{take-take, take_at, drop_at}
 use Rattle.model.specs.Bytes.{words}
 use Rattle.model.specs.Lists.{part}
 use Rattle.model.specs.Page.{page_at, data_at}
@@ -29,6 +29,13 @@ length_entries xs k (suc m) h =
 -- their entries, as many as are used of 1024
 pub entries_used : (xs l : List ℕ) (k m : ℕ) → k * 528 + m * 528 ≤ length xs → l ≡ load_map xs k m ++ replicate (1024 - 256 * m) 0 → take (256 * m) l ≡ load_map xs k m
 entries_used xs l k m h e = ap (take (256 * m)) e ∙ take_at (load_map xs k m) (replicate (1024 - 256 * m) 0) (256 * m) (length_entries xs k m h)
+
+module _ (xs l : List ℕ) (k m : ℕ) (f : l ≡ load_map xs k m ++ replicate (1024 - 256 * m) 0) where
+  pub length_kept : k * 528 + m * 528 ≤ length xs → length (take (256 * m) l) ≡ 256 * m
+  length_kept h = ap length (entries_used xs l k m h f) ∙ length_entries xs k m h
+
+  pub kept_fit : k * 528 + m * 528 ≤ length xs → 256 * m ≤ length l
+  kept_fit h = omega (arith, ap length f, length_entries xs k m h, length-append (load_map xs k m) (replicate {A = ℕ} (1024 - 256 * m) 0))
 
 -- ---- the data of page k
 pub data_part : (xs : List ℕ) (k : ℕ) → take (k * 528 + 512 - k * 528) (drop (k * 528) xs) ≡ data_at xs k

@@ -1,11 +1,11 @@
 -- The zone lists in a zone page's data that refusal 3 passes: their counts, and that the blocks to scan lie in the array. Assumes nothing.
-use mathlib.Core.Path.{◌≡◌, refl, sym}
+use mathlib.Core.Path.{◌≡◌, refl}
 use mathlib.Core.Bool.{Bool, true, not, ◌&&◌}
 use mathlib.Core.List.{List, [], ◌++◌}
-use Prim.Native.Nat.{ℕ, ◌+◌, ◌-◌, ◌*◌, ◌≤◌}
+use Prim.Native.Nat.{ℕ, ◌+◌, ◌-◌, ◌*◌}
 use native.Mathlib.Omega.{arith}
 use lib.ListN.{length, take, drop, get_or, replicate, length-append}
-use lib.Seq.{take_at, length-take-le}
+use lib.Seq.{take_at}
 use lib.Dec.{eqb, leb}
 use borrow.Author.Tests.{leb-true}
 use Rattle.model.specs.Lists.{all, all_heads, elem, rising, pad_to}
@@ -19,9 +19,7 @@ use Rattle.arrays.specs.Ranges.{geometry_in}
 use Rattle.arrays.specs.Splice.{length_part}
 use Rattle.flash.specs.Ranges.{Within}
 use Rattle.flash.proofs.Ranges.{within_data}
-use Rattle.blocks.specs.declared.Blocks.{Blocks}
-use Rattle.blocks.specs.Blocks.{blocks_of, list_of, Counted}
-use Rattle.blocks.proofs.Kept.{kept_list}
+use Rattle.blocks.specs.Blocks.{Counted}
 use Rattle.load.specs.Load.{Counts}
 use Rattle.recover.specs.Recovering.{Scannable, Standing, Loaded}
 use Rattle.recover.proofs.Entries.{zone_long, entries_enough}
@@ -115,14 +113,6 @@ module _ (g : Geometry) (entries z : List ℕ) (shape : geometry_ok g ≡ true) 
         rw (read, unavailable_back z, available_back z)
         (within_data g n (unavailable_in z ++ available_in z) e (omega (arith, length-append (unavailable_in z) (available_in z))) (all_append (data_block g) (unavailable_in z) (available_in z) u a))
 
--- blocks as they are kept: the list of them
-pub kept_inside : (o : Blocks) (bs : List ℕ) → o ≡ blocks_of bs → o.n ≤ length o.list
-unfolding blocks_of pad_to
-kept_inside o bs e = rw e (omega (arith, length-append bs (replicate (126 - length bs) 0)))
-
-pub kept_length : (o : Blocks) (bs : List ℕ) → o ≡ blocks_of bs → o.n ≡ length (list_of o)
-kept_length o bs e = sym (length-take-le o.n o.list (kept_inside o bs e))
-
 -- ---- of the checkpoint on page k on
 module _ (g : Geometry) (xs map : List ℕ) (k : ℕ) (h : Standing g xs map k) (z entries : List ℕ) (d : Loaded g xs k z entries) where
   loaded_ok : load_ok g entries z ≡ true
@@ -136,11 +126,11 @@ module _ (g : Geometry) (xs map : List ℕ) (k : ℕ) (h : Standing g xs map k) 
     counted = counted_in g entries z h.shape (zone_long g xs map k h z entries d) loaded_ok zones read
 
     -- o is the blocks in scan order
-    pub scannable : (o : Blocks) → o ≡ blocks_of (unavailable_of zones ++ available_of zones) → Scannable g xs map (list_of o) entries
+    pub scannable : (o : List ℕ) → o ≡ unavailable_of zones ++ available_of zones → Scannable g xs map o entries
     scannable o e =
         record {
           shape = h.shape;
-          blocks = rw (kept_list o (unavailable_of zones ++ available_of zones) e) (order_within g entries z h.shape (zone_long g xs map k h z entries d) loaded_ok zones read (length xs) h.bytes);
+          blocks = rw e (order_within g entries z h.shape (zone_long g xs map k h z entries d) loaded_ok zones read (length xs) h.bytes);
           mapped = h.mapped;
           enough = entries_enough g xs map k h z entries d;
         }

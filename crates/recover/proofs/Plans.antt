@@ -1,4 +1,5 @@
 -- What the calls of a recovery do is its plan carried out, whatever the hold. Assumes nothing.
+use Rattle.std.specs.Prelude.{Option, Some, None}
 use mathlib.Core.Path.{◌≡◌, ap, sym, ◌∙◌}
 use mathlib.Core.Logic.{◌⊎◌, inl, inr}
 use mathlib.Core.Bool.{Bool, true, false, ◌&&◌}
@@ -22,13 +23,14 @@ use Rattle.model.specs.Commands.{carried}
 use Rattle.model.specs.declared.Geometry.{Geometry}
 use Rattle.model.specs.declared.State.{State}
 use Rattle.model.specs.declared.Zones.{Zones}
-use Rattle.arrays.specs.Tests.{clash, decide}
+use Rattle.arrays.specs.Tests.{decide}
 use Rattle.arrays.specs.Ranges.{geometry_in}
 use Rattle.load.specs.Load.{zone_page_ok}
 use Rattle.load.proofs.Lists.{halves}
 use Rattle.scan.specs.Taken.{Blocks, listed}
 use Rattle.scan.specs.Notes.{notes_of, met_all, start}
 use Rattle.scan.specs.Judged.{changes_of, Surveyed}
+use Rattle.scan.specs.declared.Note.{Note}
 use Rattle.scan.specs.declared.Seen.{Seen}
 use Rattle.scan.proofs.Loops.{listed_length, listed_pages}
 use Rattle.scan.proofs.Visiting.{met_few}
@@ -47,7 +49,7 @@ module _ (g : Geometry) (xs map bs entries : List ℕ) (h : Scannable g xs map b
       record { least = omega arith; most = i.pages_most; within = h.blocks }
 
   -- all pages of the scan were visited, and met so
-  pub scan_met : (order other notes : List ℕ) (m : Seen) → order ≡ listed g.pages bs → length other ≡ length bs * g.pages
+  pub scan_met : (order other : List ℕ) (notes : List Note) (m : Seen) → order ≡ listed g.pages bs → length other ≡ length bs * g.pages
       → m ≡ met_all g.planes g.logical xs order start → notes ≡ notes_of xs order → Surveyed g.planes g.logical xs g.pages bs order notes other m
   scan_met order other notes m l r s n =
       record {
@@ -63,7 +65,7 @@ module _ (g : Geometry) (xs map bs entries : List ℕ) (h : Scannable g xs map b
 
   -- entries that were copied into the map m, over a scan that refusal 4 passes
   pub redo_ready : (good : Bool) → good ≡ pages_good g.planes g.logical (scan_in xs g.pages bs) → good ≡ true → (m : List ℕ) → m ≡ take (length map) entries
-      → (order other notes changes : List ℕ) → order ≡ listed g.pages bs → length other ≡ length bs * g.pages → notes ≡ notes_of xs order
+      → (order other : List ℕ) (notes : List Note) (changes : List ℕ) → order ≡ listed g.pages bs → length other ≡ length bs * g.pages → notes ≡ notes_of xs order
       → changes ≡ changes_of g.planes xs (listed g.pages bs)
       → Ready g.planes m xs g.pages bs changes notes other
   redo_ready good eg ok m e order other notes changes l r n c =
@@ -86,35 +88,37 @@ module _ (g : Geometry) (xs map bs entries : List ℕ) (h : Scannable g xs map b
 
 -- what is made of a scan that refusal 4 does not pass, and of one that it passes
 module _ (planes logical : ℕ) (es : List Entry) (floor : ℕ) (entries map : List ℕ) where
-  pub scan_refused : (good : Bool) → good ≡ pages_good planes logical es → good ≡ false → scanned_of planes logical es floor (take logical entries) map ≡ record { good = false; top = 0; map = map }
+  pub scan_refused : (good : Bool) → good ≡ pages_good planes logical es → good ≡ false → scanned_of planes logical es floor (take logical entries) map ≡ record { top = None; map = map }
   unfolding scanned_of
   scan_refused good eg e = rw (← eg, e)
 
   -- m is the map with the entries copied into it, n with what is applied entered too
   pub scan_passed : (good : Bool) → good ≡ pages_good planes logical es → good ≡ true → (t : ℕ) → t ≡ top es
       → length map ≡ logical → (m : List ℕ) → m ≡ take (length map) entries → (n : List ℕ) → n ≡ redone planes floor es m
-      → scanned_of planes logical es floor (take logical entries) map ≡ record { good = true; top = t; map = n }
+      → scanned_of planes logical es floor (take logical entries) map ≡ record { top = Some t; map = n }
   unfolding scanned_of
   scan_passed good eg e t et h m em n en = rw (← eg, e, et, en, em, h)
 
 -- and back
-module _ (planes logical : ℕ) (es : List Entry) (floor : ℕ) (entries map : List ℕ) (good : Bool) (t : ℕ) (m : List ℕ)
-    (h : scanned_of planes logical es floor entries map ≡ record { good = good; top = t; map = m }) where
-  pub refused_back : good ≡ false → (pages_good planes logical es ≡ false) × (m ≡ map)
+module _ (planes logical : ℕ) (es : List Entry) (floor : ℕ) (entries map : List ℕ) (m : List ℕ) where
+  abbrev Made : Option ℕ → Type 0
+  Made t = scanned_of planes logical es floor entries map ≡ record { top = t; map = m }
+
+  pub refused_back : Made None → (pages_good planes logical es ≡ false) × (m ≡ map)
   unfolding scanned_of
-  refused_back e = go (decide (pages_good planes logical es))
+  refused_back h = go (decide (pages_good planes logical es))
     where
       go : (pages_good planes logical es ≡ true) ⊎ (pages_good planes logical es ≡ false) → (pages_good planes logical es ≡ false) × (m ≡ map)
-      go (inl p) = let q = rw p at h in clash (ap (λ (r : Scan). r.good) (sym q)) e
+      go (inl p) = let q = rw p at h in let e : Some (top es) ≡ None = ap (λ (r : Scan). r.top) q in cc
       go (inr p) = let q = rw p at h in (p, ap (λ (r : Scan). r.map) (sym q))
 
-  pub passed_back : good ≡ true → (pages_good planes logical es ≡ true) × ((t ≡ top es) × (m ≡ redone planes floor es entries))
+  pub passed_back : (t : ℕ) → Made (Some t) → (pages_good planes logical es ≡ true) × ((t ≡ top es) × (m ≡ redone planes floor es entries))
   unfolding scanned_of
-  passed_back e = go (decide (pages_good planes logical es))
+  passed_back t h = go (decide (pages_good planes logical es))
     where
       go : (pages_good planes logical es ≡ true) ⊎ (pages_good planes logical es ≡ false) → (pages_good planes logical es ≡ true) × ((t ≡ top es) × (m ≡ redone planes floor es entries))
-      go (inl p) = let q = rw p at h in (p, (ap (λ (r : Scan). r.top) (sym q), ap (λ (r : Scan). r.map) (sym q)))
-      go (inr p) = let q = rw p at h in clash e (ap (λ (r : Scan). r.good) (sym q))
+      go (inl p) = let q = rw p at h in let e : Some (top es) ≡ Some t = ap (λ (r : Scan). r.top) q in (p, ((let u : t ≡ top es = cc in u), ap (λ (r : Scan). r.map) (sym q)))
+      go (inr p) = let q = rw p at h in let e : None ≡ Some t = ap (λ (r : Scan). r.top) q in cc
 
 -- ---- the plan from the checkpoint on page k on
 module _ (g : Geometry) (s : State) (xs map : List ℕ) (k : ℕ) where
@@ -124,8 +128,7 @@ module _ (g : Geometry) (s : State) (xs map : List ℕ) (k : ℕ) where
   bad_checkpoint_law e = λ hold. rw e
 
   module _ (z entries : List ℕ) (d : Loaded g xs k z entries) (zones : Zones) (ez : zones ≡ zones_in z) (floor : ℕ) (ef : floor ≡ le32 z 0)
-      (bs : List ℕ) (eb : bs ≡ unavailable_of zones ++ available_of zones) (good : Bool) (t : ℕ) (m : List ℕ)
-      (h : scanned_of g.planes g.logical (scan_in xs g.pages bs) floor (take g.logical entries) map ≡ record { good = good; top = t; map = m }) where
+      (bs : List ℕ) (eb : bs ≡ unavailable_of zones ++ available_of zones) (m : List ℕ) where
     zones_is : zones ≡ zones_in (zones_at g xs k)
     zones_is = ez ∙ ap zones_in d.zones
 
@@ -137,19 +140,20 @@ module _ (g : Geometry) (s : State) (xs map : List ℕ) (k : ℕ) where
     scan_is = ap (scan_in xs g.pages) eb ∙ ap (λ (y : Zones). scan_in xs g.pages (unavailable_of y ++ available_of y)) zones_is
 
     -- refusal 4
-    pub bad_page_law : good ≡ false → Strode (from_plan g k) s xs map 4 xs m s
+    pub bad_page_law : scanned_of g.planes g.logical (scan_in xs g.pages bs) floor (take g.logical entries) map ≡ record { top = None; map = m } → Strode (from_plan g k) s xs map 4 xs m s
     unfolding carried from_plan first_number apply_op
-    bad_page_law e =
-        let q = refused_back g.planes g.logical (scan_in xs g.pages bs) floor (take g.logical entries) map good t m h e in
+    bad_page_law h =
+        let q = refused_back g.planes g.logical (scan_in xs g.pages bs) floor (take g.logical entries) map m h in
         let bad : pages_good g.planes g.logical (scanned_at g xs k) ≡ false = ap (pages_good g.planes g.logical) (sym scan_is) ∙ q.0 in
         λ hold. rw (d.ok, bad, q.1)
 
     -- done
-    pub recovers : good ≡ true → (version number : ℕ) → version ≡ max floor t → number ≡ number_at xs k → (r : State) → r ≡ recovered_of g zones version number k
+    pub recovers : (t : ℕ) → scanned_of g.planes g.logical (scan_in xs g.pages bs) floor (take g.logical entries) map ≡ record { top = Some t; map = m }
+        → (version number : ℕ) → version ≡ max floor t → number ≡ number_at xs k → (r : State) → r ≡ recovered_of g zones version number k
         → Strode (from_plan g k) s xs map 0 xs m r
     unfolding carried from_plan first_number apply_op recover_plan recovered_map recovered_state recovered_of
-    recovers e version number ev en r er =
-        let q = passed_back g.planes g.logical (scan_in xs g.pages bs) floor (take g.logical entries) map good t m h e in
+    recovers t h version number ev en r er =
+        let q = passed_back g.planes g.logical (scan_in xs g.pages bs) floor (take g.logical entries) map m t h in
         let ok : pages_good g.planes g.logical (scanned_at g xs k) ≡ true = ap (pages_good g.planes g.logical) (sym scan_is) ∙ q.0 in
         let v : version ≡ max (floor_at g xs k) (top (scanned_at g xs k)) = ev ∙ rw (q.1.0, floor_is, scan_is) in
         let n : m ≡ redone g.planes (floor_at g xs k) (scanned_at g xs k) (take g.logical (entries_at g xs k)) = q.1.1 ∙ rw (floor_is, scan_is, d.used) in

@@ -1,5 +1,5 @@
 -- What a recovery makes of a scan, and what it may count on.
-use Rattle.std.specs.Prelude.{ℕ, ◌+◌, ◌*◌, ◌≤◌, ◌<◌, ◌/◌, ◌≡◌, Bool, true, false, cond, not, List, [], ◌∷◌, length, replicate}
+use Rattle.std.specs.Prelude.{ℕ, ◌+◌, ◌*◌, ◌≤◌, ◌<◌, ◌/◌, ◌≡◌, true, cond, not, Option, Some, None, List, [], ◌∷◌, length, replicate}
 use Rattle.model.specs.Geometry.{geometry_ok, map_pages}
 use Rattle.model.specs.Zones.{Entry}
 use Rattle.model.specs.Checkpoint.{load_ok}
@@ -14,18 +14,18 @@ use Rattle.model.specs.declared.Zones.{Zones}
 use Rattle.model.specs.declared.Work.TheVariants.{Idle}
 use Rattle.model.specs.declared.Plane.TheVariants.{Neither}
 use Rattle.flash.specs.Ranges.{Within}
+use Rattle.scan.specs.declared.Note.{Note}
 
--- whether refusal 4 passes, the highest version, and the map
+-- the highest version, where refusal 4 passes, and the map
 pub record Scan : Type 0 where
-  pub good : Bool
-  pub top : ℕ
+  pub top : Option ℕ
   pub map : List ℕ
 
 unfoldable pub scanned_of : ℕ → ℕ → List Entry → ℕ → List ℕ → List ℕ → Scan
 scanned_of planes logical es floor entries map =
     cond (pages_good planes logical es)
-    (record { good = true; top = top es; map = redone planes floor es entries })
-    (record { good = false; top = 0; map = map })
+    (record { top = Some (top es); map = redone planes floor es entries })
+    (record { top = None; map = map })
 
 -- the state of a recovery from the checkpoint on page k on
 unfoldable pub recovered_of : Geometry → Zones → ℕ → ℕ → ℕ → State
@@ -50,7 +50,7 @@ pub record Scannable (g : Geometry) (xs map bs entries : List ℕ) : Type 0 wher
   pub enough : g.logical ≤ length entries
 
 -- lists as long as a scan of these blocks, p pages a block
-pub record Lent (p : ℕ) (bs order other notes : List ℕ) : Type 0 where
+pub record Lent (p : ℕ) (bs order other : List ℕ) (notes : List Note) : Type 0 where
   pub pages : length order ≡ length bs * p
   pub room : length other ≡ length bs * p
   pub noted : length notes ≡ length bs * p

@@ -1,7 +1,7 @@
 // Recover, from a complete checkpoint: 3, 4, and else the map and the state that follow. It programs nothing.
 #![tactic(auto)]
 
-ghost use Rattle.std.specs.Prelude.{◌≡◌, true, false, ◌<◌, take};
+ghost use Rattle.std.specs.Prelude.{◌≡◌, true, ◌<◌, take, MatchOption};
 ghost use Rattle.model.specs.declared.State.{State};
 ghost use Rattle.model.specs.Answers.{number};
 ghost use Rattle.model.specs.Geometry.{geometry_ok};
@@ -10,6 +10,7 @@ ghost use Rattle.strides.specs.Strode.{Strode};
 ghost use Rattle.recover.specs.Recovering.{scanned_of, recovered_of, Scannable, Lent, Standing, Loaded, from_plan};
 
 use model::{Answer, Geometry, Map, Place, Plane, Refusal, Spare, State, Work, Zones};
+use scan::Note;
 use strides::Stride;
 
 /// Few pages to scan, and the most: 126 blocks of 64.
@@ -17,15 +18,8 @@ const FEW: usize = 512;
 
 const MOST: usize = 8064;
 
-/// Whether refusal 4 passes the scan, and its highest version.
-#[derive(Clone, Copy)]
-pub struct Scanned {
-    pub good: bool,
-    pub top: u32,
-}
-
-/// Scans the blocks, and where refusal 4 passes makes the map of the entries and what is applied above the floor. A list of pages, room for
-/// another and notes are lent, each as long as the scan.
+/// Scans the blocks, and where refusal 4 passes makes the map of the entries and what is applied above the floor: the scan's highest version. A
+/// list of pages, room for another and notes are lent, each as long as the scan.
 fn scan_pages(
     array: &[u8],
     map: &mut [u16],
@@ -35,41 +29,31 @@ fn scan_pages(
     entries: &[u16],
     order: &mut [u16],
     other: &mut [u16],
-    notes: &mut [u8],
-) -> Scanned
+    notes: &mut [Note],
+) -> Option<u32>
     requires { Scannable g array.now map.old bs.now entries.now × Lent g.pages bs.now order.old other.old notes.old }
-    ensures { scanned_of g.planes g.logical (scan_in array.now g.pages bs.now) floor (take g.logical entries.now) map.old ≡ record { good = result.good; top = result.top; map = map.new } }
+    ensures { scanned_of g.planes g.logical (scan_in array.now g.pages bs.now) floor (take g.logical entries.now) map.old ≡ record { top = result; map = map.new } }
 {
-    let pages = g.pages as usize;
-    scan::list(bs, pages, order);
-    let seen = scan::visit(array, order, notes, g.logical, g.planes);
-    if !scan::pages_good(
-        array, bs, pages, order, other, notes, seen, g.logical, g.planes,
-    ) {
-        return Scanned {
-            good: false,
-            top: 0,
-        };
+    scan::list(g, bs, order);
+    let seen = scan::visit(array, order, notes, g);
+    if !scan::pages_good(array, g, bs, order, other, notes, seen) {
+        return None;
     }
     let l = map.len();
-    sorting::copy(&entries[..l], map);
+    map.copy_from_slice(&entries[..l]);
     let n = seen.changes as usize;
     recovery::redo(
         map,
         array,
+        g,
         bs,
-        pages,
-        g.planes,
         &order[..n],
         notes,
         other,
         floor,
         seen.top,
     );
-    Scanned {
-        good: true,
-        top: seen.top,
-    }
+    Some(seen.top)
 }
 
 /// The same, with lists in local memory: 40 KiB, or where few pages are scanned, as on most power-ups, 2.5 KiB.
@@ -80,15 +64,15 @@ fn scan_blocks(
     bs: &[u8],
     floor: u32,
     entries: &[u16],
-) -> Scanned
+) -> Option<u32>
     requires { Scannable g array.now map.old bs.now entries.now }
-    ensures { scanned_of g.planes g.logical (scan_in array.now g.pages bs.now) floor (take g.logical entries.now) map.old ≡ record { good = result.good; top = result.top; map = map.new } }
+    ensures { scanned_of g.planes g.logical (scan_in array.now g.pages bs.now) floor (take g.logical entries.now) map.old ≡ record { top = result; map = map.new } }
 {
-    let n = scan::size(bs, g.pages as usize);
+    let n = scan::size(g, bs);
     if n <= FEW {
         let mut order = [0u16; FEW];
         let mut other = [0u16; FEW];
-        let mut notes = [0u8; FEW];
+        let mut notes = [Note::NotWhole; FEW];
         return scan_pages(
             array,
             map,
@@ -103,7 +87,7 @@ fn scan_blocks(
     }
     let mut order = [0u16; MOST];
     let mut other = [0u16; MOST];
-    let mut notes = [0u8; MOST];
+    let mut notes = [Note::NotWhole; MOST];
     scan_pages(
         array,
         map,
@@ -136,10 +120,9 @@ fn recovered(g: Geometry, zones: Zones, version: u32, checkpoint: u32, k: usize)
     }
 }
 
-/// What a checkpoint and the scan after it say: whether refusal 4 passes the scan, and of what the state is made then.
+/// What a checkpoint and the scan after it say, where refusal 4 passes the scan: of what the state is made.
 #[derive(Clone, Copy)]
 struct Applied {
-    good: bool,
     zones: Zones,
     version: u32,
     number: u32,
@@ -147,24 +130,27 @@ struct Applied {
 
 /// Scans and applies what the zones of a checkpoint list. No state goes in and none comes out: the scan's lists take most of the stack that there is.
 #[inline(never)]
-fn apply(array: &[u8], map: &mut [u16], g: Geometry, k: usize, z: &[u8], entries: &[u16]) -> Applied
+fn apply(
+    array: &[u8],
+    map: &mut [u16],
+    g: Geometry,
+    k: usize,
+    z: &[u8],
+    entries: &[u16],
+) -> Option<Applied>
     requires { Standing g array.now map.old k × Loaded g array.now k z.now entries.now }
-    ensures refused { result.good ≡ false → (s : State) → Strode (from_plan g k) s array.now map.old 4 array.now map.new s }
-    ensures done { result.good ≡ true → (s r : State) → r ≡ recovered_of g result.zones result.version result.number k → Strode (from_plan g k) s array.now map.old 0 array.now map.new r }
+    ensures { MatchOption result ((s : State) → Strode (from_plan g k) s array.now map.old 4 array.now map.new s)
+        (λ f. (s r : State) → r ≡ recovered_of g f.zones f.version f.number k → Strode (from_plan g k) s array.now map.old 0 array.now map.new r) }
 {
     let zones = load::zones_in(z);
     let floor = page::word32(z, 0);
     let order = blocks::scan_order(zones);
-    let list = order.list;
-    let n = order.n;
-    let r = scan_blocks(array, map, g, &list[..n], floor, entries);
-    let number = checkpoint::number_at(array, k);
-    Applied {
-        good: r.good,
+    let top = scan_blocks(array, map, g, order.as_slice(), floor, entries)?;
+    Some(Applied {
         zones,
-        version: recovery::higher(floor, r.top),
-        number,
-    }
+        version: floor.max(top),
+        number: checkpoint::number_at(array, k),
+    })
 }
 
 /// Recovers from the complete checkpoint on page k on: 3, 4, or done.
@@ -174,19 +160,19 @@ pub fn recover_from(s: State, array: &[u8], map: &mut [u16], g: Geometry, k: usi
 {
     let m = ranges::map_pages(g);
     let used = Map::ENTRIES_A_PAGE * m;
-    let entries = load::load_map(array, k, m);
+    let mut entries = [0u16; 1024];
+    load::load_map(array, k, m, &mut entries);
     let a = (k + m) * Spare::PAGE;
     let e = a + Spare::DATA;
     if !load::entries_ok(g, &entries[..used]) {
-        return strides::refused(s, Refusal::BAD_CHECKPOINT);
+        return strides::refused(s, Refusal::BadCheckpoint);
     }
     if !load::zone_page_ok(g, &array[a..e]) {
-        return strides::refused(s, Refusal::BAD_CHECKPOINT);
+        return strides::refused(s, Refusal::BadCheckpoint);
     }
-    let f = apply(array, map, g, k, &array[a..e], &entries[..used]);
-    if !f.good {
-        return strides::refused(s, Refusal::BAD_PAGE);
-    }
+    let Some(f) = apply(array, map, g, k, &array[a..e], &entries[..used]) else {
+        return strides::refused(s, Refusal::BadPage);
+    };
     Stride {
         answer: Answer::Done,
         state: recovered(g, f.zones, f.version, f.number, k),

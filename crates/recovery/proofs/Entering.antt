@@ -1,22 +1,21 @@
 -- Pages entered one after the other, each where its rank is not below the best so far of its logical page. Assumes nothing.
-use mathlib.Core.Path.{◌≡◌, refl, sym, ap, ◌∙◌}
+use mathlib.Core.Path.{◌≡◌, refl, sym, ◌∙◌}
 use mathlib.Core.List.{List, [], ◌∷◌, ◌++◌}
 use Prim.Native.Nat.{ℕ, ◌+◌, ◌*◌, ◌≤◌, ◌<◌}
 use native.Mathlib.Omega.{arith}
 use native.Mathlib.Numerals.{add-one}
 use lib.ListN.{length, take, drop, get_or, set, length-take, length-drop}
-use lib.Seq.{take-suc, take_all}
+use lib.Seq.{take-suc}
 use lib.Dec.{eqb}
 use borrow.Author.Tests.{le-leb, lt-leb}
 use Rattle.model.specs.Lists.{those}
 use Rattle.model.specs.Page.{spare_of}
 use Rattle.model.specs.Zones.{Entry, entry_of}
 use Rattle.model.specs.Recovery.{leads_to, of_id}
-use Rattle.ranks.specs.Dealt.{Each, each_at, each_take, each_drop}
+use Rattle.ranks.specs.Dealt.{Each, each_take, each_drop}
 use Rattle.ranks.specs.Pass.{Best, enter_best, best_of, best_append}
 use Rattle.sorting.specs.Sort.{key_at}
 use Rattle.scan.specs.Taken.{entry_in, entries_in}
-use Rattle.sorting.proofs.Laws.{page_fits}
 use Rattle.recovery.specs.Redo.{best, Enterable}
 use Rattle.scan.proofs.Listing.{entries_append, entries_those}
 
@@ -98,13 +97,6 @@ module _ (rank : Entry → ℕ) (xs ks map₀ ranks₀ : List ℕ) where
     abbrev page : ℕ
     page = get_or ks i 0
 
-    -- what entering page i asks for
-    pub entered_next : Enterable xs ks map₀ ranks₀ → i < length ks → (page * 528 + 528 ≤ length xs) × (((entry_in xs page).lpn < length map) × (length ranks ≡ length map))
-    entered_next e l = (
-      page_fits (length xs) ks i e.pages l,
-      (rw d.mapped (each_at (λ (k : ℕ). (entry_in xs k).lpn < length map₀) ks i 0 e.logical l), d.ranked ∙ e.ranked ∙ sym d.mapped),
-    )
-
     -- and what it leaves, entered with its rank v
     pub entered_more : i < length ks → (v : ℕ) → v ≡ rank (entry_in xs page) → (m r : List ℕ) → length m ≡ length map → length r ≡ length ranks
         → best m r ≡ enter_best (λ (e : Entry). v) (entry_in xs page) (best map ranks) → Entered rank xs ks map₀ ranks₀ (i + 1) m r
@@ -115,6 +107,3 @@ module _ (rank : Entry → ℕ) (xs ks map₀ ranks₀ : List ℕ) where
           ranked = lr ∙ d.ranked;
           is = e ∙ rw (q, d.is) (sym (enter_rank rank (entry_in xs page) _)) ∙ sym (enter_more rank xs ks i (best map₀ ranks₀) l);
         }
-
-    pub entered_all : length ks ≤ i → best map ranks ≡ best_of rank (entries_in xs ks) (best map₀ ranks₀)
-    entered_all l = d.is ∙ ap (λ (js : List ℕ). best_of rank (entries_in xs js) (best map₀ ranks₀)) (take_all i ks l)

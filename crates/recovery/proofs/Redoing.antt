@@ -7,8 +7,7 @@ use mathlib.Core.List.{List, [], ◌∷◌, ◌++◌, append-nil}
 use Prim.Native.Nat.{ℕ, zero, suc, ◌+◌, ◌-◌, ◌≤◌, ◌<◌}
 use native.Mathlib.Omega.{arith}
 use native.Mathlib.Numerals.{add-one}
-use lib.ListN.{length, take, get_or, replicate, length-replicate}
-use lib.Seq.{length-take-le}
+use lib.ListN.{length, take, get_or, replicate}
 use lib.Dec.{eqb, leb, ltb}
 use borrow.Author.Tests.{eq-eqb, ne_eqb, eqb-true, eqb-false, not-true, ltb-true}
 use Rattle.model.specs.Lists.{all, those}
@@ -26,6 +25,8 @@ use Rattle.ranks.specs.Best.{ver_of, rank_of, best_pass, best_redone, ver_lone, 
 use Rattle.sorting.specs.Sort.{byte_at, key_at, dealt_by, turned, sorted_in}
 use Rattle.sorting.proofs.Keys.{page_byte, in_keeps, in_sorted, in_each}
 use Rattle.scan.specs.Taken.{listed, entry_in, entries_in}
+use Rattle.scan.specs.declared.Note.{Note}
+use Rattle.scan.specs.declared.Wanted.TheVariants.{Changes, Singles}
 use Rattle.scan.specs.Notes.{picked, noted}
 use Rattle.scan.specs.Judged.{changes_of}
 use Rattle.scan.proofs.Listing.{wholes, entries_append, entries_those, scan_listed}
@@ -56,7 +57,7 @@ pub changes_runs : (planes : ℕ) (xs ks : List ℕ) → ((i : ℕ) → get_or x
 unfolding changes_of
 changes_runs planes xs ks low =
     let two = eqb planes 2 in
-    let cs = noted xs 1 2 ks in
+    let cs = noted xs Changes ks in
     record { sorted = in_sorted xs 516 (omega arith) low two cs; change = in_each _ xs two 516 cs (change_ids xs ks) }
 
 -- ---- what refusal 4 says of them and of the lone pages
@@ -92,10 +93,10 @@ module _ (planes logical : ℕ) (xs : List ℕ) (p : ℕ) (bs : List ℕ) (good 
   pub changes_enterable : Each (λ (k : ℕ). (entry_in xs k).lpn < logical) (changes_of planes xs (listed p bs))
   unfolding changes_of
   changes_enterable =
-      in_each (λ (k : ℕ). (entry_in xs k).lpn < logical) xs (eqb planes 2) 516 (noted xs 1 2 (listed p bs))
+      in_each (λ (k : ℕ). (entry_in xs k).lpn < logical) xs (eqb planes 2) 516 (noted xs Changes (listed p bs))
       (rw (noted_changes xs (listed p bs)) (each_those _ (changing xs) (wholes xs (listed p bs)) lpns))
 
-  pub lone_enterable : Each (λ (k : ℕ). (entry_in xs k).lpn < logical) (noted xs 3 3 (listed p bs))
+  pub lone_enterable : Each (λ (k : ℕ). (entry_in xs k).lpn < logical) (noted xs Singles (listed p bs))
   lone_enterable = rw (noted_lone xs (listed p bs)) (each_those _ (lone xs) (wholes xs (listed p bs)) lpns)
 
 -- ---- pages in turn are entries in turn
@@ -149,7 +150,7 @@ module _ (planes logical : ℕ) (xs : List ℕ) (p : ℕ) (bs : List ℕ) (low :
   changes = entries_in xs (changes_of planes xs (listed p bs))
 
   abbrev lones : List Entry
-  lones = entries_in xs (noted xs 3 3 (listed p bs))
+  lones = entries_in xs (noted xs Singles (listed p bs))
 
   abbrev has : ℕ → ℕ → Bool
   has i k = eqb (key_at xs 516 k) i
@@ -160,12 +161,12 @@ module _ (planes logical : ℕ) (xs : List ℕ) (p : ℕ) (bs : List ℕ) (low :
   changes_id : (i : ℕ) → of_id i changes ≡ entries_in xs (turned (eqb planes 2) xs (those (has i) (those (changing xs) pages)))
   unfolding changes_of
   changes_id i =
-      entries_id xs (sorted_in (eqb planes 2) xs 516 (noted xs 1 2 (listed p bs))) i
-      ∙ ap (entries_in xs) (in_keeps xs 516 (omega arith) low (eqb planes 2) i (noted xs 1 2 (listed p bs))
+      entries_id xs (sorted_in (eqb planes 2) xs 516 (noted xs Changes (listed p bs))) i
+      ∙ ap (entries_in xs) (in_keeps xs 516 (omega arith) low (eqb planes 2) i (noted xs Changes (listed p bs))
       ∙ ap (λ (ks : List ℕ). turned (eqb planes 2) xs (those (has i) ks)) (noted_changes xs (listed p bs)))
 
   lones_id : (i : ℕ) → of_id i lones ≡ entries_in xs (those (has i) (those (lone xs) pages))
-  lones_id i = entries_id xs (noted xs 3 3 (listed p bs)) i ∙ ap (λ (ks : List ℕ). entries_in xs (those (has i) ks)) (noted_lone xs (listed p bs))
+  lones_id i = entries_id xs (noted xs Singles (listed p bs)) i ∙ ap (λ (ks : List ℕ). entries_in xs (those (has i) ks)) (noted_lone xs (listed p bs))
 
   -- the pages of a change have numbers up to 41 on two planes
   own_few : (i : ℕ) → i ≢ 0 → planes ≡ 2 → Each (λ (e : Entry). number e ≤ 41) (of_id i entries)
@@ -231,15 +232,15 @@ module _ (planes logical : ℕ) (xs : List ℕ) (p : ℕ) (bs : List ℕ) (low :
   unfolding rank_of
   lones_rank =
       entries_both (Fine planes logical) (λ (e : Entry). e.id ≡ 0) _ (λ e f z. sym (ver_lone entries e z (fine_lone planes logical e f z))) lones
-      (entries_each (Fine planes logical) xs (noted xs 3 3 (listed p bs))
+      (entries_each (Fine planes logical) xs (noted xs Singles (listed p bs))
       (rw (noted_lone xs (listed p bs)) (each_those _ (lone xs) pages (fine planes logical xs p bs good))))
-      (entries_each (λ (e : Entry). e.id ≡ 0) xs (noted xs 3 3 (listed p bs)) (rw (noted_lone xs (listed p bs))
+      (entries_each (λ (e : Entry). e.id ≡ 0) xs (noted xs Singles (listed p bs)) (rw (noted_lone xs (listed p bs))
       (each_map _ _ (λ k t. sym (key_id xs k) ∙ eqb-true (key_at xs 516 k) 0 t) (those (lone xs) pages) (passed (lone xs) pages))))
 
 -- ---- so what is entered is what is redone
 pub redo_is : (planes logical floor : ℕ) (xs : List ℕ) (p : ℕ) (bs : List ℕ) (m : List ℕ) → ((i : ℕ) → get_or xs i 0 < 256)
     → pages_good planes logical (scan_in xs p bs) ≡ true
-    → (all_entered xs (changes_of planes xs (listed p bs)) (noted xs 3 3 (listed p bs)) (start_best (suc floor) m)).map
+    → (all_entered xs (changes_of planes xs (listed p bs)) (noted xs Singles (listed p bs)) (start_best (suc floor) m)).map
     ≡ redone planes floor (scan_in xs p bs) m
 unfolding best_pass
 redo_is planes logical floor xs p bs m low good =
@@ -254,13 +255,13 @@ redo_is planes logical floor xs p bs m low good =
     ap (λ (r : Best). r.map) passes ∙ sym (best_redone planes logical floor es (cs ++ ls) m good (grouped planes logical xs p bs low good))
 
 -- ---- what a scan that is ready gives the loops
-module _ (planes : ℕ) (map xs : List ℕ) (p : ℕ) (bs cs notes other : List ℕ) (r : Ready planes map xs p bs cs notes other) where
+module _ (planes : ℕ) (map xs : List ℕ) (p : ℕ) (bs cs : List ℕ) (notes : List Note) (other : List ℕ) (r : Ready planes map xs p bs cs notes other) where
   -- the pages of changes may be entered, and are runs
   pub ready_changes : ((i : ℕ) → get_or xs i 0 < 256) → (ranks : List ℕ) → length ranks ≡ length map → Enterable xs cs map ranks × Runs xs cs
   unfolding changes_of
   ready_changes low ranks n = (
     record {
-      pages = rw r.change (sorted_pages (length xs) xs 516 (eqb planes 2) (noted xs 1 2 (listed p bs)) (omega arith) low (noted_pages (length xs) xs 1 2 (listed p bs) (listed_pages xs p bs r.blocks)));
+      pages = rw r.change (sorted_pages (length xs) xs 516 (eqb planes 2) (noted xs Changes (listed p bs)) (omega arith) low (noted_pages (length xs) xs Changes (listed p bs) (listed_pages xs p bs r.blocks)));
       logical = rw r.change (changes_enterable planes (length map) xs p bs r.good);
       ranked = n;
     },
@@ -268,14 +269,14 @@ module _ (planes : ℕ) (map xs : List ℕ) (p : ℕ) (bs cs notes other : List 
   )
 
   -- the lone pages, n of them, are picked to the front of the pages of the scan
-  module _ (ks : List ℕ) (list : ks ≡ listed p bs) (n : ℕ) (after : List ℕ) (front : take n after ≡ picked 3 3 ks notes) where
-    pub ready_lone : take n after ≡ noted xs 3 3 (listed p bs)
-    ready_lone = front ∙ rw (list, r.note) (picked_noted xs 3 3 (listed p bs))
+  module _ (ks : List ℕ) (list : ks ≡ listed p bs) (n : ℕ) (after : List ℕ) (front : take n after ≡ picked Singles ks notes) where
+    pub ready_lone : take n after ≡ noted xs Singles (listed p bs)
+    ready_lone = front ∙ rw (list, r.note) (picked_noted xs Singles (listed p bs))
 
     pub lone_enter : (m ranks : List ℕ) → length m ≡ length map → length ranks ≡ length m → Enterable xs (take n after) m ranks
     lone_enter m ranks l k =
         record {
-          pages = rw ready_lone (noted_pages (length xs) xs 3 3 (listed p bs) (listed_pages xs p bs r.blocks));
+          pages = rw ready_lone (noted_pages (length xs) xs Singles (listed p bs) (listed_pages xs p bs r.blocks));
           logical = rw (ready_lone, l) (lone_enterable planes (length map) xs p bs r.good);
           ranked = k;
         }
@@ -286,12 +287,9 @@ take_replicate zero n x h = refl
 take_replicate (suc l) zero x h = absurd (omega arith)
 take_replicate (suc l) (suc n) x h = ap (λ (xs : List ℕ). x ∷ xs) (take_replicate l n x (omega arith))
 
-pub first_length : (n x : ℕ) (map : List ℕ) → length map ≤ n → length (take (length map) (replicate n x)) ≡ length map
-first_length n x map h = length-take-le (length map) (replicate n x) (omega (arith, length-replicate n x))
-
-pub redo_all : (planes floor n : ℕ) (map xs : List ℕ) (p : ℕ) (bs cs notes other : List ℕ) → ((i : ℕ) → get_or xs i 0 < 256) → Ready planes map xs p bs cs notes other → length map ≤ n
+pub redo_all : (planes floor n : ℕ) (map xs : List ℕ) (p : ℕ) (bs cs : List ℕ) (notes : List Note) (other : List ℕ) → ((i : ℕ) → get_or xs i 0 < 256) → Ready planes map xs p bs cs notes other → length map ≤ n
     → (m ranks : List ℕ)
-    → best m ranks ≡ all_entered xs cs (noted xs 3 3 (listed p bs)) (best map (take (length map) (replicate n (floor + 1))))
+    → best m ranks ≡ all_entered xs cs (noted xs Singles (listed p bs)) (best map (take (length map) (replicate n (floor + 1))))
     → m ≡ redone planes floor (scan_in xs p bs) map
 redo_all planes floor n map xs p bs cs notes other low r few m ranks e =
     let s : best map (take (length map) (replicate n (floor + 1))) ≡ start_best (suc floor) map =

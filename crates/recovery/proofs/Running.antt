@@ -7,9 +7,10 @@ use mathlib.Core.List.{List, [], ◌∷◌, ◌++◌, append-nil}
 use Prim.Native.Nat.{ℕ, zero, suc, ◌+◌, ◌-◌, ◌≤◌, ◌<◌, max}
 use native.Mathlib.Omega.{arith}
 use lib.ListN.{length, take, drop, get_or, take-append-drop, length-take, length-drop}
-use lib.Seq.{take-add, drop-cons, drop-drop, get_or-drop}
+use lib.Seq.{take-add, drop-cons, drop-drop}
 use lib.Dec.{eqb}
 use borrow.Author.Tests.{eq-eqb, ne_eqb}
+use Rattle.std.specs.List.{position_or_len}
 use Rattle.model.specs.Lists.{keep, those}
 use Rattle.model.specs.Zones.{Entry}
 use Rattle.model.specs.Recovery.{of_id, top}
@@ -26,33 +27,30 @@ use Rattle.recovery.specs.Redo.{run_of, run_version, Runs}
 use Rattle.recovery.proofs.Entering.{entries_more, entries_each, entries_id, best_ranks}
 
 -- ---- where a run ends
-run_length : (xs : List ℕ) (id : ℕ) (ks : List ℕ) (j : ℕ) → j ≤ length ks → ((q : ℕ) → q < j → key_at xs 516 (get_or ks q 0) ≡ id)
-    → (j < length ks → key_at xs 516 (get_or ks j 0) ≢ id) → j ≡ run_of xs id ks
+-- the run of an identifier ends where another one stands
+pub run_position : (xs : List ℕ) (id : ℕ) (ks : List ℕ) → position_or_len (λ (k : ℕ). not (eqb (key_at xs 516 k) id)) ks ≡ run_of xs id ks
 unfolding run_of
-run_length xs id [] j l h n = omega arith
-run_length xs id (k ∷ ks) zero l h n = rw (ne_eqb (key_at xs 516 k) id (n (omega arith)))
-run_length xs id (k ∷ ks) (suc j) l h n =
-    rw (eq-eqb (key_at xs 516 k) id (h 0 (omega arith)))
-    (ap suc (run_length xs id ks j (omega arith) (λ q m. h (suc q) (omega arith)) (λ m. n (omega arith))))
-
--- the pages from i to before j have the identifier, and page j has another or is none
-pub run_ends : (xs : List ℕ) (id : ℕ) (ks : List ℕ) (i j : ℕ) → i < j → j ≤ length ks
-    → ((q : ℕ) → i ≤ q → q < j → key_at xs 516 (get_or ks q 0) ≡ id) → (j < length ks → key_at xs 516 (get_or ks j 0) ≢ id) → j ≡ i + run_of xs id (drop i ks)
-run_ends xs id ks i j l m h n =
-    let e : i + (j - i) ≡ j = omega arith in
-    let r : j - i ≡ run_of xs id (drop i ks)
-    = run_length xs id (drop i ks) (j - i) (omega (arith, length-drop i ks)) (λ q a. rw (get_or-drop i ks q 0) (h (i + q) (omega arith) (omega arith)))
-    (λ a. rw (get_or-drop i ks (j - i) 0, e) (n (omega (arith, length-drop i ks)))) in
-    omega arith
-
--- the pages from i to before j have the identifier, and page j too
-pub same_more : (xs ks : List ℕ) (i j id : ℕ) → ((q : ℕ) → i ≤ q → q < j → key_at xs 516 (get_or ks q 0) ≡ id) → key_at xs 516 (get_or ks j 0) ≡ id
-    → (q : ℕ) → i ≤ q → q < j + 1 → key_at xs 516 (get_or ks q 0) ≡ id
-same_more xs ks i j id h e q l m = go (eqb_cases q j)
+run_position xs id [] = refl
+run_position xs id (k ∷ ks) = go (eqb (key_at xs 516 k) id) (run_position xs id ks)
   where
-    go : Is q j → key_at xs 516 (get_or ks q 0) ≡ id
-    go (inl r) = rw r.0 e
-    go (inr r) = h q l (omega (arith, r.0))
+    go : (t : Bool) → position_or_len (λ (k : ℕ). not (eqb (key_at xs 516 k) id)) ks ≡ run_of xs id ks
+        → cond (not (not t)) (1 + position_or_len (λ (k : ℕ). not (eqb (key_at xs 516 k) id)) ks) 0 ≡ cond t (suc (run_of xs id ks)) 0
+    go true h = omega arith
+    go false h = refl
+
+pub run_most : (xs : List ℕ) (id : ℕ) (ks : List ℕ) → run_of xs id ks ≤ length ks
+unfolding run_of
+run_most xs id [] = omega arith
+run_most xs id (k ∷ ks) = go (eqb (key_at xs 516 k) id) (run_most xs id ks)
+  where
+    go : (t : Bool) → run_of xs id ks ≤ length ks → cond t (suc (run_of xs id ks)) 0 ≤ suc (length ks)
+    go true h = omega arith
+    go false h = omega arith
+
+-- page i is of its own run
+pub run_some : (xs ks : List ℕ) (i : ℕ) → i < length ks → 0 < run_of xs (key_at xs 516 (get_or ks i 0)) (drop i ks)
+unfolding run_of
+run_some xs ks i h = rw (drop-cons ks i 0 h, eq-eqb (key_at xs 516 (get_or ks i 0)) _ refl) (omega arith)
 
 -- ---- the version of a run
 -- with one more page that passes it is the higher one

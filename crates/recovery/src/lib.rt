@@ -3,7 +3,7 @@
 // TxID, one run of an identifier after the other, each in turn, and then the lone pages. It takes the same steps for any versions.
 #![tactic(auto)]
 
-ghost use Rattle.std.specs.Prelude.{◌≡◌, ◌+◌, ◌*◌, ◌≤◌, ◌<◌, max, length, drop, get_or};
+ghost use Rattle.std.specs.Prelude.{◌≡◌, ◌+◌, ◌*◌, ◌≤◌, ◌<◌, length, drop, get_or};
 ghost use Rattle.model.specs.Zones.{Entry, scan_in};
 ghost use Rattle.model.specs.Recovery.{top, redone};
 ghost use Rattle.ranks.specs.Pass.{enter_best, best_of};
@@ -14,24 +14,18 @@ ghost use Rattle.scan.specs.Notes.{noted};
 ghost use Rattle.recovery.specs.Redo.{rank_by, best, all_entered, run_of, run_version, Enterable, Runs, Ready};
 
 use model::{Geometry, Map, Spare};
+use scan::{Note, Wanted};
 
 /// A best version for each logical page.
 const LOGICAL: usize = Geometry::MAX_LOGICAL as usize;
-
-/// With which version pages are entered: that of their run, or each with its own.
-#[derive(Clone, Copy)]
-enum By {
-    Run(u32),
-    Own,
-}
 
 /// Enters page k with this version, unless a better one was entered for its logical page.
 fn enter(map: &mut [u16], bests: &mut [u32], array: &[u8], k: u16, v: u32)
     requires { (k * 528 + 528 ≤ length array.now) × (((entry_in array.now k).lpn < length map.old) × (length bests.old ≡ length map.old)) }
     ensures { best map.new bests.new ≡ enter_best (λ (e : Entry). v) (entry_in array.now k) (best map.old bests.old) }
 {
-    let page = flash::page_of(array, sorting::wide16(k));
-    let l = sorting::wide16(page::word16(page, Spare::LPN));
+    let page = flash::page_of(array, usize::from(k));
+    let l = usize::from(page::word16(page, Spare::LPN));
     if v < bests[l] {
         return;
     }
@@ -39,27 +33,24 @@ fn enter(map: &mut [u16], bests: &mut [u32], array: &[u8], k: u16, v: u32)
     map[l] = Map::leads(page[Spare::KIND] == Spare::DROP_KIND, k);
 }
 
-/// The version that page k is entered with.
-fn version_of(array: &[u8], k: u16, by: By) -> u32
+/// The version that page k is entered with: that of its run, or its own.
+fn version_of(array: &[u8], k: u16, run: Option<u32>) -> u32
     requires { k * 528 + 528 ≤ length array.now }
-    ensures { result ≡ rank_by by (entry_in array.now k) }
+    ensures { result ≡ rank_by run (entry_in array.now k) }
 {
-    match by {
-        By::Run(v) => v,
-        By::Own => page::word32(flash::page_of(array, sorting::wide16(k)), Spare::VER),
+    match run {
+        Some(v) => v,
+        None => page::word32(flash::page_of(array, usize::from(k)), Spare::VER),
     }
 }
 
 /// Enters the pages of a list: those of a run with its version, lone ones each with its own.
-fn enter_pages(map: &mut [u16], bests: &mut [u32], array: &[u8], order: &[u16], by: By)
+fn enter_pages(map: &mut [u16], bests: &mut [u32], array: &[u8], order: &[u16], run: Option<u32>)
     requires { Enterable array.now order.now map.old bests.old }
-    ensures { best map.new bests.new ≡ best_of (rank_by by) (entries_in array.now order.now) (best map.old bests.old) }
+    ensures { best map.new bests.new ≡ best_of (rank_by run) (entries_in array.now order.now) (best map.old bests.old) }
 {
-    let mut i: usize = 0;
-    while i < order.len() {
-        let k = order[i];
-        enter(map, bests, array, k, version_of(array, k, by));
-        i += 1;
+    for &k in order {
+        enter(map, bests, array, k, version_of(array, k, run));
     }
 }
 
@@ -69,14 +60,11 @@ fn run_end(array: &[u8], order: &[u16], i: usize) -> usize
     ensures { (result ≡ i + run_of array.now (key_at array.now 516 (get_or order.now i 0)) (drop i order.now)) × ((i < result) × (result ≤ length order.now)) }
 {
     let id = id_of(array, order[i]);
-    let mut j = i + 1;
-    while j < order.len() {
-        if id_of(array, order[j]) != id {
-            return j;
-        }
-        j += 1;
-    }
-    j
+    let rest = &order[i..];
+    i + rest
+        .iter()
+        .position(|&k| id_of(array, k) != id)
+        .unwrap_or(rest.len())
 }
 
 /// The identifier of page k.
@@ -84,7 +72,7 @@ fn id_of(array: &[u8], k: u16) -> u32
     requires { k * 528 + 528 ≤ length array.now }
     ensures { result ≡ key_at array.now 516 k }
 {
-    page::word32(flash::page_of(array, sorting::wide16(k)), Spare::ID)
+    page::word32(flash::page_of(array, usize::from(k)), Spare::ID)
 }
 
 /// The version of a run: that of its mark, if the mark counts its pages, else 0.
@@ -93,14 +81,11 @@ fn run_version(array: &[u8], run: &[u16]) -> u32
     ensures { result ≡ run_version array.now run.now }
 {
     let mut v: u32 = 0;
-    let mut i: usize = 0;
-    while i < run.len() {
-        let page = scan::listed_page(array, run, i);
-        i += 1;
-        if sorting::wide16(page::word16(page, Spare::CNT)) != run.len() {
-            continue;
+    for &k in run {
+        let page = flash::page_of(array, usize::from(k));
+        if usize::from(page::word16(page, Spare::CNT)) == run.len() {
+            v = v.max(page::word32(page, Spare::VER));
         }
-        v = higher(v, page::word32(page, Spare::VER));
     }
     v
 }
@@ -110,11 +95,12 @@ fn enter_runs(map: &mut [u16], bests: &mut [u32], array: &[u8], order: &[u16])
     requires { Enterable array.now order.now map.old bests.old × Runs array.now order.now }
     ensures { best map.new bests.new ≡ best_of (rank_of (entries_in array.now order.now)) (entries_in array.now order.now) (best map.old bests.old) }
 {
+    // by index: a step is a whole run
     let mut i: usize = 0;
     while i < order.len() {
         let j = run_end(array, order, i);
         let v = run_version(array, &order[i..j]);
-        enter_pages(map, bests, array, &order[i..j], By::Run(v));
+        enter_pages(map, bests, array, &order[i..j], Some(v));
         i = j;
     }
 }
@@ -124,65 +110,43 @@ fn enter_all(
     map: &mut [u16],
     bests: &mut [u32],
     array: &[u8],
+    g: Geometry,
     bs: &[u8],
-    pages: usize,
-    planes: u16,
     changes: &[u16],
-    notes: &[u8],
+    notes: &[Note],
     other: &mut [u16],
 )
-    requires { Ready planes map.old array.now pages bs.now changes.now notes.now other.old × (length bests.old ≡ length map.old) }
-    ensures { best map.new bests.new ≡ all_entered array.now changes.now (noted array.now 3 3 (listed pages bs.now)) (best map.old bests.old) }
+    requires { Ready g.planes map.old array.now g.pages bs.now changes.now notes.now other.old × (length bests.old ≡ length map.old) }
+    ensures { best map.new bests.new ≡ all_entered array.now changes.now (noted array.now Wanted.Singles (listed g.pages bs.now)) (best map.old bests.old) }
 {
     enter_runs(map, bests, array, changes);
-    scan::list(bs, pages, other);
-    let n = scan::pick(other, notes, scan::LONE, scan::LONE);
-    enter_pages(map, bests, array, &other[..n], By::Own);
+    scan::list(g, bs, other);
+    let n = scan::pick(other, notes, Wanted::Singles);
+    enter_pages(map, bests, array, &other[..n], None);
 }
 
 /// Enters the committed transactions above the floor by rising version; the highest version of the scan is given, and its pages of changes
-/// sorted by TxID, those of one in turn. `other` is room for the scan's pages. `planes` says which turn that is, to the contract alone.
+/// sorted by TxID, those of one in turn. `other` is room for the scan's pages.
 // in a frame of its own, beside that of the sort
 #[inline(never)]
 pub fn redo(
     map: &mut [u16],
     array: &[u8],
+    g: Geometry,
     bs: &[u8],
-    pages: usize,
-    planes: u16,
     changes: &[u16],
-    notes: &[u8],
+    notes: &[Note],
     other: &mut [u16],
     floor: u32,
     highest: u32,
 )
-    requires { Ready planes map.old array.now pages bs.now changes.now notes.now other.old × (highest ≡ top (scan_in array.now pages bs.now)) }
-    ensures { map.new ≡ redone planes floor (scan_in array.now pages bs.now) map.old }
+    requires { Ready g.planes map.old array.now g.pages bs.now changes.now notes.now other.old × (highest ≡ top (scan_in array.now g.pages bs.now)) }
+    ensures { map.new ≡ redone g.planes floor (scan_in array.now g.pages bs.now) map.old }
 {
     if highest <= floor {
         return;
     }
     let l = map.len();
     let mut bests = [floor + 1; LOGICAL];
-    enter_all(
-        map,
-        &mut bests[..l],
-        array,
-        bs,
-        pages,
-        planes,
-        changes,
-        notes,
-        other,
-    );
-}
-
-/// The higher of two versions.
-pub fn higher(v: u32, w: u32) -> u32
-    ensures { result ≡ max v w }
-{
-    if v < w {
-        return w;
-    }
-    v
+    enter_all(map, &mut bests[..l], array, g, bs, changes, notes, other);
 }

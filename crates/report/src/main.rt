@@ -10,6 +10,7 @@ use std::io::{Read, Write};
 fn fill<R: Read>(input: &mut R, buffer: &mut [u8]) -> std::io::Result<usize>
     ensures { IfOk result (λ n. n ≤ length buffer.new) }
 {
+    // by hand: `read_exact` takes an early end for an error, and `read_to_end` wants a heap
     let mut done: usize = 0;
     while done < buffer.len() {
         let n = input.read(&mut buffer[done..])?;

@@ -4,7 +4,6 @@ use mathlib.Core.Path.{◌≡◌, refl, sym, subst}
 use mathlib.Core.Bool.{true}
 use mathlib.Core.List.{◌++◌}
 use Prim.Native.Nat.{ℕ}
-use lib.ListN.{length}
 use borrow.Author.Tests.{not-false}
 use Rattle.model.specs.Lists.{all}
 use Rattle.model.specs.Geometry.{map_pages}
@@ -18,9 +17,6 @@ use Rattle.model.specs.declared.Geometry.{Geometry}
 use Rattle.model.specs.declared.State.{State}
 use Rattle.arrays.specs.Ranges.{geometry_in}
 use Rattle.arrays.specs.Order.{numbered, Unless, none_applies, done_first, found_at}
-use Rattle.flash.specs.Ranges.{Within}
-use Rattle.blocks.specs.Blocks.{blocks_of}
-use Rattle.blocks.proofs.Kept.{kept_list}
 use Rattle.recover.specs.Recovering.{Standing, Loaded}
 use Rattle.recover.proofs.Lists.{counted, scannable}
 use Rattle.starting.proofs.Starts.{standing}
@@ -52,10 +48,10 @@ found_fits g w s f =
     let xs = w.array in
     let z = zones_in (zones_at g xs f.page) in
     let d : Loaded g xs f.page (zones_at g xs f.page) (entries_at g xs f.page) = record { zones = refl; used = refl; ok = f.loads } in
-    let o = scannable g xs w.map f.page f.stands _ _ d z refl (blocks_of (unavailable_of z ++ available_of z)) refl in
+    let o = scannable g xs w.map f.page f.stands _ _ d z refl (unavailable_of z ++ available_of z) refl in
     record {
       counts = counted g xs w.map f.page f.stands _ _ d z refl;
-      blocks = subst (Within (length xs) g.pages) (kept_list (blocks_of (unavailable_of z ++ available_of z)) _ refl) o.blocks;
+      blocks = o.blocks;
       short = (geometry_in g f.stands.shape).pages_most;
     }
 

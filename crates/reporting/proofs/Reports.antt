@@ -2,11 +2,9 @@
 use mathlib.Core.Path.{◌≡◌, refl, sym, ap, ◌∙◌, subst}
 use mathlib.Core.Bool.{Bool, true, false}
 use mathlib.Core.List.{List, ◌∷◌}
-use Prim.Native.Nat.{ℕ, zero, suc, ◌+◌, ◌≤◌, ◌<◌}
+use Prim.Native.Nat.{ℕ, zero, suc, ◌≤◌, ◌<◌}
 use native.Mathlib.Omega.{arith}
 use lib.ListN.{length, take, replicate}
-use lib.Seq.{length-take-le}
-use Rattle.io.specs.Counts.{IsPrefixLen}
 use borrow.Author.Tests.{lt-ltb, le-ltb}
 use Rattle.model.specs.Zones.{torn_of}
 use Rattle.model.specs.World.{World}
@@ -93,30 +91,20 @@ array_recovered g xs entries h k e p =
 
 -- ---- an input
 module _ (input : List ℕ) where
-  pub first_lost : line_of blocks_name input ≡ ill_formed → number_line answer_name 1 ≡ report_of input
+  pub first_lost : ill_formed ≡ line_of blocks_name input → number_line answer_name 1 ≡ report_of input
   unfolding report_of
-  first_lost e = rw e
+  first_lost e = rw (← e)
 
-  module _ (b : ℕ) (second : List ℕ) (e : line_of blocks_name input ≡ says b second) where
-    pub second_lost : line_of pages_name second ≡ ill_formed → number_line answer_name 1 ≡ report_of input
+  module _ (b : ℕ) (second : List ℕ) (e : says b second ≡ line_of blocks_name input) where
+    pub second_lost : ill_formed ≡ line_of pages_name second → number_line answer_name 1 ≡ report_of input
     unfolding report_of
-    second_lost f = rw (e, f)
+    second_lost f = rw (← e, ← f)
 
-    module _ (p : ℕ) (third : List ℕ) (f : line_of pages_name second ≡ says p third) where
-      pub third_lost : line_of logical_name third ≡ ill_formed → number_line answer_name 1 ≡ report_of input
+    module _ (p : ℕ) (third : List ℕ) (f : says p third ≡ line_of pages_name second) where
+      pub third_lost : ill_formed ≡ line_of logical_name third → number_line answer_name 1 ≡ report_of input
       unfolding report_of
-      third_lost h = rw (e, f, h)
+      third_lost h = rw (← e, ← f, ← h)
 
-      pub all_found : (l : ℕ) (xs : List ℕ) → line_of logical_name third ≡ says l xs → array_report (record { blocks = b; pages = p; logical = l; planes = 1 }) xs ≡ report_of input
+      pub all_found : (l : ℕ) (xs : List ℕ) → says l xs ≡ line_of logical_name third → array_report (record { blocks = b; pages = p; logical = l; planes = 1 }) xs ≡ report_of input
       unfolding report_of
-      all_found l xs h = rw (e, f, h)
-
--- the answer line fits
-pub answer_fits : length answer_name + 21 ≤ 8192
-answer_fits = omega arith
-
--- the report stands at the front of a buffer that has room for it
-pub at_front : {a t b : List ℕ} {m r : ℕ} → (u : List ℕ) → t ≡ u → Put a 0 t m b r → m ≤ 8192 → length a ≡ 8192 → (take r b ≡ u) × IsPrefixLen r b
-at_front {a} {t} {b} {m} {r} u e p h k =
-    let l : r ≤ length b = omega (arith, p.far, p.same) in
-    (p.is ∙ e, (l, sym (length-take-le r b l)))
+      all_found l xs h = rw (← e, ← f, ← h)

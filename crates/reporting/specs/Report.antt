@@ -1,5 +1,6 @@
 -- The report: what the program writes, for every input.
-use Rattle.std.specs.Prelude.{ℕ, ◌≤◌, cond, List, ◌++◌, length, replicate, ltb}
+use denote.Bor.{Bor}
+use Rattle.std.specs.Prelude.{Option, Some, None, ℕ, ◌≤◌, cond, List, ◌++◌, length, replicate, ltb}
 use Rattle.model.specs.Geometry.{blank_map}
 use Rattle.model.specs.Zones.{available_of, unavailable_of, torn_of}
 use Rattle.model.specs.World.{World}
@@ -46,6 +47,11 @@ report_of input =
     following (line_of pages_name second) (λ (p : ℕ) (third : List ℕ).
     following (line_of logical_name third) (λ (l : ℕ) (xs : List ℕ).
     array_report (record { blocks = b; pages = p; logical = l; planes = 1 }) xs)))
+
+-- the report on what the code parsed: a geometry and an array, or nothing
+abbrev pub report_on : Option (Geometry × Bor (List ℕ)) → List ℕ
+report_on (Some p) = array_report p.0 p.1.now
+report_on None = number_line answer_name 1
 
 -- ---- what the count may rely on
 -- the blocks in scan order lie in the array, and the counts of the lists fit

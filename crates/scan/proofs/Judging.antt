@@ -24,6 +24,8 @@ use Rattle.sorting.proofs.Keys.{page_byte, in_those, in_sorted, turn_sorted, in_
 use Rattle.scan.specs.Taken.{listed, entry_in, entries_in}
 use Rattle.scan.specs.Notes.{noted, met_all, start}
 use Rattle.scan.specs.Judged.{mark_at, rises_from, differ, changes_of, number_at, numbers_from, numbers_differ, changes_differ, Surveyed}
+use Rattle.scan.specs.declared.Note.{Note}
+use Rattle.scan.specs.declared.Wanted.TheVariants.{Changes, Versions}
 use Rattle.scan.specs.declared.Seen.{Seen}
 use Rattle.scan.proofs.Listing.{wholes, entries_those, scan_listed}
 use Rattle.scan.proofs.Visiting.{met_good, met_fine, met_top, met_rising, noted_changes, noted_last, noted_marks}
@@ -66,7 +68,7 @@ distinct_keys f g e (k ∷ ks) = ap₂ (λ (S T : Type 0). S × T) (each_keys ks
     each_keys (l ∷ ls) = ap₂ (λ (S T : Type 0). S × T) (ap₂ (λ (a b : ℕ). a ≢ b) (e k) (e l)) (each_keys ls)
 
 versions_pages : (xs ks : List ℕ)
-    → Distinct (λ (e : Entry). e.ver) (those is_mark (entries_in xs (wholes xs ks))) ≡ Distinct (key_at xs 520) (those (mark_at xs) (noted xs 2 3 ks))
+    → Distinct (λ (e : Entry). e.ver) (those is_mark (entries_in xs (wholes xs ks))) ≡ Distinct (key_at xs 520) (those (mark_at xs) (noted xs Versions ks))
 unfolding key_at mark_at entry_in entry_of spare_of
 versions_pages xs ks =
     ap (Distinct (λ (e : Entry). e.ver)) (entries_those is_mark xs (wholes xs ks)) ∙ distinct_pages (λ (e : Entry). e.ver) xs _
@@ -74,14 +76,14 @@ versions_pages xs ks =
 
 ids_pages : (xs ks : List ℕ)
     → Distinct (λ (e : Entry). e.id) (those is_mark (those is_change (entries_in xs (wholes xs ks))))
-    ≡ Distinct (key_at xs 516) (those (mark_at xs) (noted xs 1 2 ks))
+    ≡ Distinct (key_at xs 516) (those (mark_at xs) (noted xs Changes ks))
 unfolding key_at mark_at entry_in entry_of spare_of
 ids_pages xs ks =
     ap (λ (es : List Entry). Distinct (λ (e : Entry). e.id) (those is_mark es)) (entries_those is_change xs (wholes xs ks))
     ∙ ap (Distinct (λ (e : Entry). e.id)) (entries_those is_mark xs _) ∙ distinct_pages (λ (e : Entry). e.id) xs _
     ∙ ap (λ (ls : List ℕ). Distinct (key_at xs 516) (those (mark_at xs) ls)) (sym (noted_changes xs ks))
 
-numbers_pages : (xs ks : List ℕ) → Distinct number_key (those is_change (entries_in xs (wholes xs ks))) ≡ Distinct (number_at xs) (noted xs 1 2 ks)
+numbers_pages : (xs ks : List ℕ) → Distinct number_key (those is_change (entries_in xs (wholes xs ks))) ≡ Distinct (number_at xs) (noted xs Changes ks)
 unfolding key_at entry_in entry_of spare_of
 numbers_pages xs ks =
     let change : ℕ → Bool = λ (k : ℕ). is_change (entry_in xs k) in
@@ -184,7 +186,7 @@ module _ (xs : List ℕ) where
 
 -- ---- none is 0
 -- a fine mark has a version
-versions_nonzero : (planes logical : ℕ) (xs ks : List ℕ) → Entries (Fine planes logical) (entries_in xs (wholes xs ks)) → NonZero xs 520 (noted xs 2 3 ks)
+versions_nonzero : (planes logical : ℕ) (xs ks : List ℕ) → Entries (Fine planes logical) (entries_in xs (wholes xs ks)) → NonZero xs 520 (noted xs Versions ks)
 versions_nonzero planes logical xs ks fine =
     rw (noted_last xs ks) (each_those _ _ (wholes xs ks) (each_map _ _ has (wholes xs ks) (rw (each_pages (Fine planes logical) xs (wholes xs ks)) at fine)))
   where
@@ -194,18 +196,18 @@ versions_nonzero planes logical xs ks fine =
         (fine_ver planes logical (entry_in xs k) f).1 (eqb-false c 0 (not-true (eqb c 0) (sym (mark_entry xs k) ∙ m))) (sym (key_ver xs k) ∙ z)
 
 -- a page of a change has an identifier
-pub change_ids : (xs ks : List ℕ) → Each (λ (k : ℕ). key_at xs 516 k ≢ 0) (noted xs 1 2 ks)
+pub change_ids : (xs ks : List ℕ) → Each (λ (k : ℕ). key_at xs 516 k ≢ 0) (noted xs Changes ks)
 change_ids xs ks =
     let change : ℕ → Bool = λ (k : ℕ). not (eqb (key_at xs 516 k) 0) in
     rw (noted_changes xs ks)
     (each_map _ _ (λ k t. eqb-false (key_at xs 516 k) 0 (not-true (eqb (key_at xs 516 k) 0) t)) (those change (wholes xs ks)) (passed change (wholes xs ks)))
 
-ids_nonzero : (xs ks : List ℕ) → NonZero xs 516 (noted xs 1 2 ks)
-ids_nonzero xs ks = each_map _ _ (λ k n m. n) (noted xs 1 2 ks) (change_ids xs ks)
+ids_nonzero : (xs ks : List ℕ) → NonZero xs 516 (noted xs Changes ks)
+ids_nonzero xs ks = each_map _ _ (λ k n m. n) (noted xs Changes ks) (change_ids xs ks)
 
-numbers_nonzero : (xs ks : List ℕ) → Each (λ (k : ℕ). number_at xs k ≢ 0) (noted xs 1 2 ks)
+numbers_nonzero : (xs ks : List ℕ) → Each (λ (k : ℕ). number_at xs k ≢ 0) (noted xs Changes ks)
 unfolding number_at
-numbers_nonzero xs ks = each_map _ _ (λ k n q. n (omega arith)) (noted xs 1 2 ks) (change_ids xs ks)
+numbers_nonzero xs ks = each_map _ _ (λ k n q. n (omega arith)) (noted xs Changes ks) (change_ids xs ks)
 
 -- ---- refusal 4
 both_ways : (a b : Bool) → (a ≡ true → b ≡ true) → (b ≡ true → a ≡ true) → a ≡ b
@@ -222,10 +224,10 @@ module _ (planes logical : ℕ) (xs ks : List ℕ) (low : (i : ℕ) → get_or x
 
   -- no version twice, no second mark, no number twice
   abbrev versions : Bool
-  versions = differ xs 2 3 520 false ks
+  versions = differ xs Versions 520 false ks
 
   abbrev ids : Bool
-  ids = differ xs 1 2 516 (eqb planes 2) ks
+  ids = differ xs Changes 516 (eqb planes 2) ks
 
   abbrev numbers : Bool
   numbers = numbers_differ planes xs (changes_of planes xs ks)
@@ -233,8 +235,8 @@ module _ (planes logical : ℕ) (xs ks : List ℕ) (low : (i : ℕ) → get_or x
   numbers_told : numbers ≡ true → NumbersDiffer planes es
   unfolding numbers_differ changes_of
   numbers_told h two =
-      let k : numbers_from xs 0 (sorted_in true xs 516 (noted xs 1 2 ks)) ≡ true = rw (eq-eqb planes 2 two) at h in
-      rw (numbers_pages xs ks) (numbers_distinct xs low (noted xs 1 2 ks) (numbers_nonzero xs ks) k)
+      let k : numbers_from xs 0 (sorted_in true xs 516 (noted xs Changes ks)) ≡ true = rw (eq-eqb planes 2 two) at h in
+      rw (numbers_pages xs ks) (numbers_distinct xs low (noted xs Changes ks) (numbers_nonzero xs ks) k)
 
   told_numbers : NumbersDiffer planes es → numbers ≡ true
   unfolding numbers_differ changes_of
@@ -242,8 +244,8 @@ module _ (planes logical : ℕ) (xs ks : List ℕ) (low : (i : ℕ) → get_or x
     where
       go : Is planes 2 → numbers ≡ true
       go (inl q) =
-          let d : Distinct (number_at xs) (noted xs 1 2 ks) = rw (numbers_pages xs ks) at (h q.0) in
-          rw q.1 (distinct_numbers xs low (noted xs 1 2 ks) (numbers_nonzero xs ks) d)
+          let d : Distinct (number_at xs) (noted xs Changes ks) = rw (numbers_pages xs ks) at (h q.0) in
+          rw q.1 (distinct_numbers xs low (noted xs Changes ks) (numbers_nonzero xs ks) d)
       go (inr q) = rw q.1
 
   passes : (all_met.good && ((all_met.rising || versions) && (ids && numbers))) ≡ true → pages_good planes logical es ≡ true
@@ -264,34 +266,34 @@ module _ (planes logical : ℕ) (xs ks : List ℕ) (low : (i : ℕ) → get_or x
       differ : (all_met.rising ≡ true) ⊎ (versions ≡ true) → Distinct (λ (e : Entry). e.ver) (those is_mark es)
       differ (inl t) = met_rising planes logical xs ks good t
       differ (inr t) =
-          rw (versions_pages xs ks) (rises_distinct xs 520 (omega arith) low false (noted xs 2 3 ks) (versions_nonzero planes logical xs ks fine) t)
+          rw (versions_pages xs ks) (rises_distinct xs 520 (omega arith) low false (noted xs Versions ks) (versions_nonzero planes logical xs ks fine) t)
 
       single : Distinct (λ (e : Entry). e.id) (those is_mark (those is_change es))
       single =
-          rw (ids_pages xs ks) (rises_distinct xs 516 (omega arith) low (eqb planes 2) (noted xs 1 2 ks) (ids_nonzero xs ks) (and_left ids numbers more))
+          rw (ids_pages xs ks) (rises_distinct xs 516 (omega arith) low (eqb planes 2) (noted xs Changes ks) (ids_nonzero xs ks) (and_left ids numbers more))
 
   passed_by : pages_good planes logical es ≡ true → (all_met.good && ((all_met.rising || versions) && (ids && numbers))) ≡ true
   passed_by h =
       let fine = good_fine planes logical es h in
-      let vs : Distinct (key_at xs 520) (those (mark_at xs) (noted xs 2 3 ks)) = rw (versions_pages xs ks) at (good_versions planes logical es h) in
-      let is : Distinct (key_at xs 516) (those (mark_at xs) (noted xs 1 2 ks)) = rw (ids_pages xs ks) at (good_ids planes logical es h) in
+      let vs : Distinct (key_at xs 520) (those (mark_at xs) (noted xs Versions ks)) = rw (versions_pages xs ks) at (good_versions planes logical es h) in
+      let is : Distinct (key_at xs 516) (those (mark_at xs) (noted xs Changes ks)) = rw (ids_pages xs ks) at (good_ids planes logical es h) in
       and_both _ _ (met_good planes logical xs ks ∙ entries_all (entry_good planes logical []) es fine)
       (and_both _ (ids && numbers)
-      (or_right all_met.rising versions (distinct_rises xs 520 (omega arith) low false (noted xs 2 3 ks) (versions_nonzero planes logical xs ks fine) vs))
-      (and_both ids numbers (distinct_rises xs 516 (omega arith) low (eqb planes 2) (noted xs 1 2 ks) (ids_nonzero xs ks) is)
+      (or_right all_met.rising versions (distinct_rises xs 520 (omega arith) low false (noted xs Versions ks) (versions_nonzero planes logical xs ks fine) vs))
+      (and_both ids numbers (distinct_rises xs 516 (omega arith) low (eqb planes 2) (noted xs Changes ks) (ids_nonzero xs ks) is)
       (told_numbers (good_numbers planes logical es h))))
 
 pub judged : (planes logical : ℕ) (xs : List ℕ) (p : ℕ) (bs : List ℕ) → ((i : ℕ) → get_or xs i 0 < 256) → (m : Seen)
     → m ≡ met_all planes logical xs (listed p bs) start
-    → (m.good && ((m.rising || differ xs 2 3 520 false (listed p bs)) && changes_differ planes xs (listed p bs))) ≡ pages_good planes logical (scan_in xs p bs)
+    → (m.good && ((m.rising || differ xs Versions 520 false (listed p bs)) && changes_differ planes xs (listed p bs))) ≡ pages_good planes logical (scan_in xs p bs)
 unfolding changes_differ
 judged planes logical xs p bs low m e =
     let ks = listed p bs in
     rw (e, scan_listed xs p bs) (both_ways _ _ (passes planes logical xs ks low) (passed_by planes logical xs ks low))
 
 -- the same of what a survey left
-pub surveyed : {planes logical p : ℕ} {xs bs order notes other : List ℕ} {m : Seen} → Surveyed planes logical xs p bs order notes other m → ((i : ℕ) → get_or xs i 0 < 256)
-    → (m.good && ((m.rising || differ xs 2 3 520 false (listed p bs)) && changes_differ planes xs (listed p bs))) ≡ pages_good planes logical (scan_in xs p bs)
+pub surveyed : {planes logical p : ℕ} {xs bs order : List ℕ} {notes : List Note} {other : List ℕ} {m : Seen} → Surveyed planes logical xs p bs order notes other m → ((i : ℕ) → get_or xs i 0 < 256)
+    → (m.good && ((m.rising || differ xs Versions 520 false (listed p bs)) && changes_differ planes xs (listed p bs))) ≡ pages_good planes logical (scan_in xs p bs)
 surveyed {planes} {logical} {p} {xs} {bs} {order} {notes} {other} {m} s low =
     judged planes logical xs p bs low m (s.met ∙ ap (λ (ks : List ℕ). met_all planes logical xs ks start) s.list)
 

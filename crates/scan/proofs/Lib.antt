@@ -1,4 +1,3 @@
-pub mod Numbers
 pub mod Listing
 pub mod Visiting
 pub mod Loops

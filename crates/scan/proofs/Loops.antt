@@ -8,7 +8,7 @@ use native.Mathlib.Omega.{arith}
 use native.Mathlib.Numerals.{add-one}
 use native.Mathlib.Nat.{mul-le-mul}
 use lib.ListN.{length, take, drop, set, get_or, length-set, length-append}
-use lib.Seq.{take-suc, take-suc-set, take-set-le, drop-set-lt, drop-drop, drop-cons, get_or-drop, take_all, length-take-le, take_at}
+use lib.Seq.{take-suc, take-suc-set, take-set-le, drop-set-lt, drop-drop, drop-cons, get_or-drop, length-take-le, take_at}
 use lib.Dec.{ltb}
 use borrow.Author.Tests.{eq-eqb, ne_eqb, lt-ltb, le-ltb}
 use Rattle.model.specs.Lists.{keep, up_from}
@@ -21,7 +21,9 @@ use Rattle.sorting.specs.Sort.{key_at, Pages}
 use Rattle.sorting.proofs.Keys.{page_byte}
 use Rattle.scan.specs.Taken.{Blocks, listed}
 use Rattle.table.specs.Looking.{look_of}
-use Rattle.scan.specs.Notes.{note_of, note_at, notes_of, inside, picked}
+use Rattle.scan.specs.declared.Note.{Note}
+use Rattle.scan.specs.declared.Wanted.{Wanted}
+use Rattle.scan.specs.Notes.{note_of, note_at, notes_of, wants, picked}
 use Rattle.scan.specs.Judged.{mark_at, rises_from, number_at, numbers_from}
 use Rattle.scan.proofs.Visiting.{notes_more}
 
@@ -77,28 +79,28 @@ list_more p bs order i h z e f n ups u ef en =
     ap (take ((i + 1) * p)) (sym (append_assoc (take (i * p) order) ups (drop (i * p + p) order))) ∙ take_at (take (i * p) order ++ ups) (drop (i * p + p) order) ((i + 1) * p) t ∙ sym s
 
 -- ---- pages picked
-module _ (lo hi : ℕ) where
-  picked_append : (ks ts js us : List ℕ) → length ks ≡ length ts → picked lo hi (ks ++ js) (ts ++ us) ≡ picked lo hi ks ts ++ picked lo hi js us
+module _ (w : Wanted) where
+  picked_append : (ks : List ℕ) (ts : List Note) (js : List ℕ) (us : List Note) → length ks ≡ length ts → picked w (ks ++ js) (ts ++ us) ≡ picked w ks ts ++ picked w js us
   unfolding picked
   picked_append [] [] js us e = refl
   picked_append [] (t ∷ ts) js us e = absurd (omega arith)
   picked_append (k ∷ ks) [] js us e = absurd (omega arith)
   picked_append (k ∷ ks) (t ∷ ts) js us e =
-      ap (λ (l : List ℕ). keep (inside lo hi t) (k ∷ []) ++ l) (picked_append ks ts js us (omega arith)) ∙ sym (append_assoc (keep (inside lo hi t) (k ∷ [])) (picked lo hi ks ts) (picked lo hi js us))
+      ap (λ (l : List ℕ). keep (wants w t) (k ∷ []) ++ l) (picked_append ks ts js us (omega arith)) ∙ sym (append_assoc (keep (wants w t) (k ∷ [])) (picked w ks ts) (picked w js us))
 
-  picked_one : (k t : ℕ) → picked lo hi (k ∷ []) (t ∷ []) ≡ keep (inside lo hi t) (k ∷ [])
+  picked_one : (k : ℕ) (t : Note) → picked w (k ∷ []) (t ∷ []) ≡ keep (wants w t) (k ∷ [])
   unfolding picked
-  picked_one k t = append-nil (keep (inside lo hi t) (k ∷ []))
+  picked_one k t = append-nil (keep (wants w t) (k ∷ []))
 
   -- the list is picked up to page s, of which n pages are kept; the rest stands as it was
-  pub record Picking (ks ts : List ℕ) (s n : ℕ) (order : List ℕ) : Type 0 where
+  pub record Picking (ks : List ℕ) (ts : List Note) (s n : ℕ) (order : List ℕ) : Type 0 where
     pub size : length order ≡ length ks
     pub most : s ≤ length ks
     pub kept : n ≤ s
-    pub front : take n order ≡ picked lo hi (take s ks) (take s ts)
+    pub front : take n order ≡ picked w (take s ks) (take s ts)
     pub rest : drop s order ≡ drop s ks
 
-  module _ (ks ts : List ℕ) (s n : ℕ) (order : List ℕ) (p : Picking ks ts s n order) (h : s < length ks) (e : length ts ≡ length ks) where
+  module _ (ks : List ℕ) (ts : List Note) (d : Note) (s n : ℕ) (order : List ℕ) (p : Picking ks ts s n order) (h : s < length ks) (e : length ts ≡ length ks) where
     same_page : get_or order s 0 ≡ get_or ks s 0
     same_page =
         let z : s + 0 ≡ s = omega arith in
@@ -106,20 +108,20 @@ module _ (lo hi : ℕ) where
         let b : get_or (drop s ks) 0 0 ≡ get_or ks s 0 = get_or-drop s ks 0 0 ∙ ap (λ (i : ℕ). get_or ks i 0) z in
         sym a ∙ ap (λ (l : List ℕ). get_or l 0 0) p.rest ∙ b
 
-    next : picked lo hi (take (s + 1) ks) (take (s + 1) ts) ≡ take n order ++ keep (inside lo hi (get_or ts s 0)) (get_or order s 0 ∷ [])
+    next : picked w (take (s + 1) ks) (take (s + 1) ts) ≡ take n order ++ keep (wants w (get_or ts s d)) (get_or order s 0 ∷ [])
     next =
-        ap (λ (i : ℕ). picked lo hi (take i ks) (take i ts)) (add-one s)
-        ∙ rw (take-suc ks s 0 h, take-suc ts s 0 (omega arith))
-        (picked_append (take s ks) (take s ts) (get_or ks s 0 ∷ []) (get_or ts s 0 ∷ []) (length-take-le s ks p.most ∙ sym (length-take-le s ts (omega (arith, p.most))))
-        ∙ rw (← p.front, picked_one (get_or ks s 0) (get_or ts s 0), ← same_page))
+        ap (λ (i : ℕ). picked w (take i ks) (take i ts)) (add-one s)
+        ∙ rw (take-suc ks s 0 h, take-suc ts s d (omega arith))
+        (picked_append (take s ks) (take s ts) (get_or ks s 0 ∷ []) (get_or ts s d ∷ []) (length-take-le s ks p.most ∙ sym (length-take-le s ts (omega (arith, p.most))))
+        ∙ rw (← p.front, picked_one (get_or ks s 0) (get_or ts s d), ← same_page))
 
-    pub pick_more : (m : ℕ) → m ≡ cond (inside lo hi (get_or ts s 0)) 1 0 → Picking ks ts (s + 1) (n + m) (set order n (get_or order s 0))
+    pub pick_more : (m : ℕ) → m ≡ cond (wants w (get_or ts s d)) 1 0 → Picking ks ts (s + 1) (n + m) (set order n (get_or order s 0))
     pick_more m q =
         record {
           size = length-set order n (get_or order s 0) ∙ p.size;
           most = omega arith;
-          kept = small (inside lo hi (get_or ts s 0)) q;
-          front = go (inside lo hi (get_or ts s 0)) q next;
+          kept = small (wants w (get_or ts s d)) q;
+          front = go (wants w (get_or ts s d)) q next;
           rest =
               let i = p.kept in
               drop-set-lt (s + 1) order n (get_or order s 0) (omega arith) ∙ sym (drop-drop 1 s order) ∙ ap (drop 1) p.rest ∙ drop-drop 1 s ks;
@@ -129,8 +131,8 @@ module _ (lo hi : ℕ) where
         small true q = omega (arith, p.kept)
         small false q = omega (arith, p.kept)
 
-        go : (t : Bool) → m ≡ cond t 1 0 → picked lo hi (take (s + 1) ks) (take (s + 1) ts) ≡ take n order ++ keep t (get_or order s 0 ∷ [])
-            → take (n + m) (set order n (get_or order s 0)) ≡ picked lo hi (take (s + 1) ks) (take (s + 1) ts)
+        go : (t : Bool) → m ≡ cond t 1 0 → picked w (take (s + 1) ks) (take (s + 1) ts) ≡ take n order ++ keep t (get_or order s 0 ∷ [])
+            → take (n + m) (set order n (get_or order s 0)) ≡ picked w (take (s + 1) ks) (take (s + 1) ts)
         go true q w =
             let z : n + m ≡ suc n = omega arith in
             rw (z, w) (take-suc-set order n (get_or order s 0) (omega (arith, p.kept, p.size)))
@@ -138,15 +140,11 @@ module _ (lo hi : ℕ) where
             let z : n + m ≡ n = omega arith in
             rw (z, w, append-nil (take n order)) (take-set-le n order n (get_or order s 0) (omega arith))
 
-  pub pick_none : (ks ts : List ℕ) → Picking ks ts 0 0 ks
+  pub pick_none : (ks : List ℕ) (ts : List Note) → Picking ks ts 0 0 ks
   pick_none ks ts = record { size = refl; most = omega arith; kept = omega arith; front = unfold picked in refl; rest = refl }
 
-  pub pick_all : (ks ts : List ℕ) (s n : ℕ) (order : List ℕ) → length ks ≤ s → length ts ≡ length ks → Picking ks ts s n order → (n ≤ length ks) × (take n order ≡ picked lo hi ks ts)
-  pick_all ks ts s n order h e p =
-      (omega (arith, p.kept, p.most), p.front ∙ rw (take_all s ks h, take_all s ts (omega arith)))
-
 -- ---- notes
-pub noted_more : (xs ks notes : List ℕ) (s : ℕ) → s < length ks → length notes ≡ length ks → (t : ℕ) → t ≡ note_of (look_of (page_at xs (get_or ks s 0))) → take s notes ≡ notes_of xs (take s ks)
+pub noted_more : (xs ks : List ℕ) (notes : List Note) (s : ℕ) → s < length ks → length notes ≡ length ks → (t : Note) → t ≡ note_of (look_of (page_at xs (get_or ks s 0))) → take s notes ≡ notes_of xs (take s ks)
     → take (s + 1) (set notes s t) ≡ notes_of xs (take (s + 1) ks)
 noted_more xs ks notes s h n t e i =
     ap (λ (j : ℕ). take j (set notes s t)) (add-one s) ∙ take-suc-set notes s t (omega arith) ∙ rw (i, e) (sym (notes_more xs ks s h ∙ unfold note_at in refl))

@@ -26,8 +26,11 @@ use Rattle.ranks.specs.Clear.{Fine, fine_ver, all_entries}
 use Rattle.ranks.specs.Parts.{is_change}
 use Rattle.sorting.specs.Sort.{key_at}
 use Rattle.scan.specs.Taken.{entry_in, entries_in}
-use Rattle.scan.specs.Notes.{note_of, note_at, notes_of, inside, noted, numbers_good, number_fine, spare_good, risen, counted, met, met_all, start}
+use Rattle.scan.specs.Notes.{note_of, note_at, notes_of, wants, noted, numbers_good, number_fine, spare_good, risen, counted, met, met_all, start}
 use Rattle.scan.specs.Judged.{mark_at}
+use Rattle.scan.specs.declared.Note.{Note}
+use Rattle.scan.specs.declared.Note.TheVariants.{NotWhole, OfChange, Mark, Lone}
+use Rattle.scan.specs.declared.Wanted.TheVariants.{Changes, Versions, Singles}
 use Rattle.scan.specs.declared.Seen.{Seen}
 use Rattle.scan.proofs.Listing.{wholes, entries_length, entries_those}
 
@@ -45,7 +48,7 @@ met_more planes logical xs ks m i h = rw (add-one i, take-suc ks i 0 h) (met_app
 notes_append : (xs ks ls : List ℕ) → notes_of xs (ks ++ ls) ≡ notes_of xs ks ++ notes_of xs ls
 unfolding notes_of
 notes_append xs [] ls = refl
-notes_append xs (k ∷ ks) ls = ap (λ (ts : List ℕ). note_at xs k ∷ ts) (notes_append xs ks ls)
+notes_append xs (k ∷ ks) ls = ap (λ (ts : List Note). note_at xs k ∷ ts) (notes_append xs ks ls)
 
 pub notes_more : (xs ks : List ℕ) (i : ℕ) → i < length ks → notes_of xs (take (i + 1) ks) ≡ notes_of xs (take i ks) ++ (note_at xs (get_or ks i 0) ∷ [])
 unfolding notes_of
@@ -257,52 +260,52 @@ those_both p q r h (k ∷ ks) = rw (h k) (go (p k) (those_both p q r h ks))
 abbrev is_lone : List ℕ → ℕ → Bool
 is_lone xs k = eqb (key_at xs 516 k) 0
 
-note_is : (xs : List ℕ) (k : ℕ) → note_at xs k ≡ cond (whole_at xs k) (cond (is_lone xs k) 3 (cond (mark_at xs k) 2 1)) 0
+note_is : (xs : List ℕ) (k : ℕ) → note_at xs k ≡ cond (whole_at xs k) (cond (is_lone xs k) Lone (cond (mark_at xs k) Mark OfChange)) NotWhole
 unfolding note_at note_of look_of whole_at key_at spare_of mark_at
 note_is xs k = rw (flip (eqb (le16 (page_at xs k) 514) 0))
   where
-    flip : (t : Bool) → cond {A = ℕ} (not t) 2 1 ≡ cond t 1 2
+    flip : (t : Bool) → cond {A = Note} (not t) Mark OfChange ≡ cond t OfChange Mark
     flip true = refl
     flip false = refl
 
-pub noted_changes : (xs ks : List ℕ) → noted xs 1 2 ks ≡ those (λ (k : ℕ). not (eqb (key_at xs 516 k) 0)) (wholes xs ks)
-unfolding noted inside
+pub noted_changes : (xs ks : List ℕ) → noted xs Changes ks ≡ those (λ (k : ℕ). not (eqb (key_at xs 516 k) 0)) (wholes xs ks)
+unfolding noted wants
 noted_changes xs ks =
-    those_both (whole_at xs) (λ (k : ℕ). not (is_lone xs k)) (λ (k : ℕ). inside 1 2 (note_at xs k))
+    those_both (whole_at xs) (λ (k : ℕ). not (is_lone xs k)) (λ (k : ℕ). wants Changes (note_at xs k))
     (λ k. rw (note_is xs k) (go (whole_at xs k) (is_lone xs k) (mark_at xs k))) ks
   where
-    go : (w i m : Bool) → inside 1 2 (cond w (cond i 3 (cond m 2 1)) 0) ≡ (w && not i)
+    go : (w i m : Bool) → wants Changes (cond w (cond i Lone (cond m Mark OfChange)) NotWhole) ≡ (w && not i)
     go true true m = refl
     go true false true = refl
     go true false false = refl
     go false i m = refl
 
-pub noted_lone : (xs ks : List ℕ) → noted xs 3 3 ks ≡ those (λ (k : ℕ). eqb (key_at xs 516 k) 0) (wholes xs ks)
-unfolding noted inside
+pub noted_lone : (xs ks : List ℕ) → noted xs Singles ks ≡ those (λ (k : ℕ). eqb (key_at xs 516 k) 0) (wholes xs ks)
+unfolding noted wants
 noted_lone xs ks =
-    those_both (whole_at xs) (is_lone xs) (λ (k : ℕ). inside 3 3 (note_at xs k))
+    those_both (whole_at xs) (is_lone xs) (λ (k : ℕ). wants Singles (note_at xs k))
     (λ k. rw (note_is xs k) (go (whole_at xs k) (is_lone xs k) (mark_at xs k))) ks
   where
-    go : (w i m : Bool) → inside 3 3 (cond w (cond i 3 (cond m 2 1)) 0) ≡ (w && i)
+    go : (w i m : Bool) → wants Singles (cond w (cond i Lone (cond m Mark OfChange)) NotWhole) ≡ (w && i)
     go true true m = refl
     go true false true = refl
     go true false false = refl
     go false i m = refl
 
 -- marks and lone pages
-pub noted_last : (xs ks : List ℕ) → noted xs 2 3 ks ≡ those (λ (k : ℕ). eqb (key_at xs 516 k) 0 || mark_at xs k) (wholes xs ks)
-unfolding noted inside
+pub noted_last : (xs ks : List ℕ) → noted xs Versions ks ≡ those (λ (k : ℕ). eqb (key_at xs 516 k) 0 || mark_at xs k) (wholes xs ks)
+unfolding noted wants
 noted_last xs ks =
-    those_both (whole_at xs) (λ (k : ℕ). is_lone xs k || mark_at xs k) (λ (k : ℕ). inside 2 3 (note_at xs k))
+    those_both (whole_at xs) (λ (k : ℕ). is_lone xs k || mark_at xs k) (λ (k : ℕ). wants Versions (note_at xs k))
     (λ k. rw (note_is xs k) (go (whole_at xs k) (is_lone xs k) (mark_at xs k))) ks
   where
-    go : (w i m : Bool) → inside 2 3 (cond w (cond i 3 (cond m 2 1)) 0) ≡ (w && (i || m))
+    go : (w i m : Bool) → wants Versions (cond w (cond i Lone (cond m Mark OfChange)) NotWhole) ≡ (w && (i || m))
     go true true m = refl
     go true false true = refl
     go true false false = refl
     go false i m = refl
 
-pub noted_marks : (xs ks : List ℕ) → those (mark_at xs) (noted xs 2 3 ks) ≡ those (mark_at xs) (wholes xs ks)
+pub noted_marks : (xs ks : List ℕ) → those (mark_at xs) (noted xs Versions ks) ≡ those (mark_at xs) (wholes xs ks)
 noted_marks xs ks =
     ap (those (mark_at xs)) (noted_last xs ks)
     ∙ sym (those_both (λ (k : ℕ). is_lone xs k || mark_at xs k) (mark_at xs) (mark_at xs) (λ k. go (is_lone xs k) (mark_at xs k)) (wholes xs ks))
@@ -313,10 +316,10 @@ noted_marks xs ks =
     go false false = refl
 
 -- as many pages of changes were met as were noted
-pub met_changes : (planes logical : ℕ) (xs ks : List ℕ) → (met_all planes logical xs ks start).good ≡ true → (met_all planes logical xs ks start).changes ≡ length (noted xs 1 2 ks)
+pub met_changes : (planes logical : ℕ) (xs ks : List ℕ) → (met_all planes logical xs ks start).good ≡ true → (met_all planes logical xs ks start).changes ≡ length (noted xs Changes ks)
 unfolding key_at entry_in entry_of spare_of
 met_changes planes logical xs ks h =
     let ws = wholes xs ks in
-    let e : length (those is_change (entries_in xs ws)) ≡ length (noted xs 1 2 ks)
+    let e : length (those is_change (entries_in xs ws)) ≡ length (noted xs Changes ks)
     = ap length (entries_those is_change xs ws) ∙ entries_length xs _ ∙ sym (ap length (noted_changes xs ks)) in
     rw (met_entries planes logical xs ks start) (omega (arith, e, meets_changes planes logical (entries_in xs ws) start (met_fine planes logical xs ks h)))

@@ -6,34 +6,53 @@ use Rattle.model.specs.Recovery.{kind_good}
 use Rattle.model.specs.declared.Spare.{Spare}
 use Rattle.table.specs.declared.Looked.{Looked}
 use Rattle.table.specs.Looking.{look_of}
+use Rattle.scan.specs.declared.Note.{Note}
+use Rattle.scan.specs.declared.Note.TheVariants.{NotWhole, OfChange, Mark, Lone}
+use Rattle.scan.specs.declared.Wanted.{Wanted}
+use Rattle.scan.specs.declared.Wanted.TheVariants.{Changes, Marks, Versions, Singles}
 use Rattle.scan.specs.declared.Seen.{Seen}
 
--- the note of a page: 0 where it is not whole, 1 a page of a change, 2 the mark of a change, 3 a lone page
-unfoldable pub note_of : Looked → ℕ
-note_of l = cond (is_whole l.class) (cond (eqb l.spare.id 0) 3 (cond (eqb l.spare.cnt 0) 1 2)) 0
+-- the note of a page
+unfoldable pub note_of : Looked → Note
+note_of l = cond (is_whole l.class) (cond (eqb l.spare.id 0) Lone (cond (eqb l.spare.cnt 0) OfChange Mark)) NotWhole
 
 -- of page k
-unfoldable pub note_at : List ℕ → ℕ → ℕ
+unfoldable pub note_at : List ℕ → ℕ → Note
 note_at xs k = note_of (look_of (page_at xs k))
 
 -- of some pages
-unfoldable pub notes_of : List ℕ → List ℕ → List ℕ
+unfoldable pub notes_of : List ℕ → List ℕ → List Note
 notes_of xs [] = []
 notes_of xs (k ∷ ks) = note_at xs k ∷ notes_of xs ks
 
--- a note from lo to hi
-unfoldable pub inside : ℕ → ℕ → ℕ → Bool
-inside lo hi t = leb lo t && leb t hi
+-- whether pages of a note are wanted
+unfoldable pub wants : Wanted → Note → Bool
+wants Changes NotWhole = false
+wants Changes OfChange = true
+wants Changes Mark = true
+wants Changes Lone = false
+wants Marks NotWhole = false
+wants Marks OfChange = false
+wants Marks Mark = true
+wants Marks Lone = false
+wants Versions NotWhole = false
+wants Versions OfChange = false
+wants Versions Mark = true
+wants Versions Lone = true
+wants Singles NotWhole = false
+wants Singles OfChange = false
+wants Singles Mark = false
+wants Singles Lone = true
 
--- the pages of the list whose notes, in the other one, are from lo to hi
-unfoldable pub picked : ℕ → ℕ → List ℕ → List ℕ → List ℕ
-picked lo hi [] ts = []
-picked lo hi (k ∷ ks) [] = []
-picked lo hi (k ∷ ks) (t ∷ ts) = keep (inside lo hi t) (k ∷ []) ++ picked lo hi ks ts
+-- the pages of the list whose notes, in the other one, are wanted
+unfoldable pub picked : Wanted → List ℕ → List Note → List ℕ
+picked w [] ts = []
+picked w (k ∷ ks) [] = []
+picked w (k ∷ ks) (t ∷ ts) = keep (wants w t) (k ∷ []) ++ picked w ks ts
 
--- the pages of the list whose notes are from lo to hi
-unfoldable pub noted : List ℕ → ℕ → ℕ → List ℕ → List ℕ
-noted xs lo hi ks = those (λ (k : ℕ). inside lo hi (note_at xs k)) ks
+-- the wanted pages of the list
+unfoldable pub noted : List ℕ → Wanted → List ℕ → List ℕ
+noted xs w ks = those (λ (k : ℕ). wants w (note_at xs k)) ks
 
 -- refusal 4 of a spare area by itself: what it says of a page without those before it.
 -- "only one of TxCnt, TxVer zero"; "TxID 0 with TxCnt not 1"

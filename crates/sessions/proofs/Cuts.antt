@@ -7,6 +7,7 @@ use native.Mathlib.Numerals.{add-one}
 use native.Mathlib.Omega.{arith}
 use lib.ListN.{length, drop, get_or, replicate, drop_of_length-le}
 use lib.Seq.{drop-cons}
+use Rattle.std.specs.Prelude.{Option, Some, None, is_some}
 use Rattle.model.specs.Lists.{keep}
 use Rattle.model.specs.Answers.{refused}
 use Rattle.model.specs.World.{World, programs}
@@ -18,7 +19,6 @@ use Rattle.model.specs.declared.State.{State}
 use Rattle.text.specs.Text.{Put}
 use Rattle.text.proofs.Putting.{puts, put_is, put_within, put_nothing, put_dropped}
 use Rattle.sessions.specs.Text.{map_text, maps_text, will_program, Turned}
-use Rattle.sessions.specs.declared.Progress.{Progress}
 use Rattle.sessions.proofs.Programs.{program_told}
 
 -- ---- maps as text
@@ -46,25 +46,24 @@ module _ (c n k : ℕ) (b cut : Bool) (w v : World) (r : (1 ≤ c) × (c ≤ 10)
   answered = said ∙ ap refused (told ∙ ap (λ (o : Outcome). o.answer) e)
 
   -- it is refused: what was put is dropped
-  pub turn_refused : b ≡ true → {out s out2 : List ℕ} {at m end : ℕ} (t : Progress) → t.accepted ≡ false → t.end ≡ at → at ≤ length out → Put out at s m out2 end
-      → Turned c w v out at out2 t
-  turn_refused h t f g l p = record {
+  pub turn_refused : b ≡ true → {out s out2 : List ℕ} {at m end : ℕ} → at ≤ length out → Put out at s m out2 end → Turned c w v out at out2 None
+  turn_refused h l p = record {
     world = ap (λ (o : Outcome). o.world) e;
-    answer = f ∙ ap not (sym h ∙ answered);
-    put = rw (f, g) (put_dropped 674 l p);
+    answer = ap not (sym h ∙ answered);
+    put = put_dropped 674 l p;
   }
 
   -- it is not: the maps of the array before it and after it
-  pub turn_accepted : b ≡ false → {out out1 out2 : List ℕ} {at mid : ℕ} (t : Progress) → t.accepted ≡ true
-      → Put out at (keep cut (map_text (recovered w.array))) 337 out1 mid → Put out1 mid (keep cut (map_text (recovered v.array))) 337 out2 t.end
-      → Turned c w v out at out2 t
+  pub turn_accepted : b ≡ false → {out out1 out2 : List ℕ} {at mid end : ℕ}
+      → Put out at (keep cut (map_text (recovered w.array))) 337 out1 mid → Put out1 mid (keep cut (map_text (recovered v.array))) 337 out2 end
+      → Turned c w v out at out2 (Some end)
   unfolding call_cuts
-  turn_accepted h t f p q =
+  turn_accepted h p q =
       let world : v ≡ (exec (command_of c) w).world = ap (λ (o : Outcome). o.world) e in
       let page : cut ≡ programs (plan (command_of c) w).op = before ∙ program_told c r w (sym answered ∙ h) in
       let text : keep cut (map_text (recovered w.array)) ++ keep cut (map_text (recovered v.array)) ≡ maps_text (call_cuts (command_of c) w)
       = two_maps cut (recovered w.array) (recovered v.array) ∙ rw (page, world) in
-      record { world = world; answer = f ∙ ap not (sym h ∙ answered); put = rw f (put_is text (puts p q)) }
+      record { world = world; answer = ap not (sym h ∙ answered); put = put_is text (puts p q) }
 
 -- ---- the commands one after the other
 -- command i of the ten
@@ -85,35 +84,36 @@ pub going_start : (cs : List ℕ) (w : World) (out : List ℕ) (at : ℕ) → Go
 going_start cs w out at = record { index = omega arith; text = []; put = put_nothing out at 0; whole = refl; decides = refl }
 
 module _ (cs : List ℕ) (w₀ : World) (out₀ : List ℕ) (at i : ℕ) (w : World) (out : List ℕ) (end : ℕ) (g : Going cs w₀ out₀ at i w out end) where
-  module _ (v : World) (out2 : List ℕ) (t : Progress) (l : i < length cs) (u : Turned (get_or cs i 0) w v out end out2 t) where
+  module _ (v : World) (out2 : List ℕ) (r : Option ℕ) (l : i < length cs) (u : Turned (get_or cs i 0) w v out end out2 r) where
     split : drop i cs ≡ get_or cs i 0 ∷ drop (i + 1) cs
     split = rw add-one (drop-cons cs i 0 l)
 
-    -- one more that is not refused
     left : maps_text (cuts (drop i cs) w) ≡ maps_text (call_cuts (command_of (get_or cs i 0)) w) ++ maps_text (cuts (drop (i + 1) cs) v)
     unfolding cuts
     left = rw (split, ← u.world) (maps_append (call_cuts (command_of (get_or cs i 0)) w) (cuts (drop (i + 1) cs) v))
 
-    rest : t.accepted ≡ true → accepted (drop i cs) w ≡ accepted (drop (i + 1) cs) v
+    rest : is_some r ≡ true → accepted (drop i cs) w ≡ accepted (drop (i + 1) cs) v
     unfolding accepted
     rest f = rw (split, ← u.answer, f, u.world) refl
 
-    pub going_again : t.accepted ≡ true → Going cs w₀ out₀ at (i + 1) v out2 t.end
-    going_again f = record {
-      index = omega arith;
-      text = g.text ++ maps_text (call_cuts (command_of (get_or cs i 0)) w);
-      put = put_within (puts g.put (rw f at u.put)) (omega arith);
-      whole = append_assoc g.text _ _ ∙ ap (λ (s : List ℕ). g.text ++ s) (sym left) ∙ g.whole;
-      decides = sym (rest f) ∙ g.decides;
-    }
-
-    -- one that is refused: so is the session, and nothing is put
-    none_rest : t.accepted ≡ false → accepted (drop i cs) w ≡ false
+    none_rest : is_some r ≡ false → accepted (drop i cs) w ≡ false
     unfolding accepted
     none_rest f = rw (split, ← u.answer, f) refl
 
-    pub going_refused : t.accepted ≡ false → at ≤ length out₀ → (false ≡ accepted cs w₀) × Put out₀ at [] (674 * length cs) out2 at
-    going_refused f h = (sym (none_rest f) ∙ g.decides, put_dropped (674 * length cs) h (puts g.put u.put))
+  -- one more that is not refused
+  pub going_again : (v : World) (out2 : List ℕ) (e : ℕ) → i < length cs → Turned (get_or cs i 0) w v out end out2 (Some e) → Going cs w₀ out₀ at (i + 1) v out2 e
+  going_again v out2 e l u = record {
+    index = omega arith;
+    text = g.text ++ maps_text (call_cuts (command_of (get_or cs i 0)) w);
+    put = put_within (puts g.put u.put) (omega arith);
+    whole = append_assoc g.text _ _ ∙ ap (λ (s : List ℕ). g.text ++ s) (sym (left v out2 (Some e) l u)) ∙ g.whole;
+    decides = sym (rest v out2 (Some e) l u refl) ∙ g.decides;
+  }
+
+  -- one that is refused: so is the session, and nothing is put
+  pub going_refused : (v : World) (out2 : List ℕ) → i < length cs → Turned (get_or cs i 0) w v out end out2 None → at ≤ length out₀
+      → (false ≡ accepted cs w₀) × Put out₀ at [] (674 * length cs) out2 at
+  going_refused v out2 l u h = (sym (none_rest v out2 None l u refl) ∙ g.decides, put_dropped (674 * length cs) h (puts g.put u.put))
 
   -- none is left
   pub going_done : length cs ≤ i → (true ≡ accepted cs w₀) × Put out₀ at (maps_text (cuts cs w₀)) (674 * length cs) out end

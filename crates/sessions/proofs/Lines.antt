@@ -1,5 +1,5 @@
 -- Lines put one behind the other, session by session and length by length. Assumes nothing.
-use mathlib.Core.Path.{◌≡◌, refl, sym, ap, ◌∙◌, subst}
+use mathlib.Core.Path.{◌≡◌, refl, sym, ap, ◌∙◌}
 use mathlib.Core.Bool.{Bool, true, false}
 use mathlib.Core.List.{List, [], ◌∷◌, ◌++◌, append_assoc, append-nil}
 use Prim.Native.Nat.{ℕ, zero, suc, ◌+◌, ◌-◌, ◌*◌, ◌≤◌, ◌<◌}
@@ -13,8 +13,7 @@ use Rattle.model.specs.Sessions.{fresh, accepted, cuts, power, session, sessions
 use Rattle.text.specs.Text.{listed, Put}
 use Rattle.text.proofs.Putting.{puts, put_within, put_dropped}
 use Rattle.sessions.specs.Text.{maps_text, line_of, lines_of, lines_in, text_of, Adds}
-use Rattle.sessions.specs.declared.Listing.{Listing}
-use Rattle.sessions.specs.declared.Listing.TheVariants.{Listed, Full}
+use Rattle.std.specs.Prelude.{Some, None}
 
 -- ---- a line
 module _ (cs ds : List ℕ) (w : World) (ok : Bool) (d : ds ≡ cs) (e : w ≡ fresh) (f : ok ≡ accepted ds w) where
@@ -95,26 +94,24 @@ unfolding lines_in text_of short_sessions
 sizes_start out = refl
 
 -- the lines of one length put, with what is left
-pub sizes_again : (n count : ℕ) (out out' : List ℕ) (end : ℕ) (l : Listing) {r : ℕ} → l ≡ Listed r → Adds out end (lines_in (sessions_from n 0 count)) out' l → n < 5
+pub sizes_again : (n count : ℕ) (out out' : List ℕ) (end r : ℕ) → Adds out end (lines_in (sessions_from n 0 count)) out' (Some r) → n < 5
     → count ≡ power n → take end out ++ lines_in (sessions_up n (5 - n)) ≡ text_of → (r ≤ length out') × (take r out' ++ lines_in (sessions_up (n + 1) (5 - (n + 1))) ≡ text_of)
-sizes_again n count out out' end l {r} f a h c e =
-    let p : (take r out' ≡ take end out ++ lines_in (sessions_from n 0 count)) × (r ≤ length out') = subst (Adds out end (lines_in (sessions_from n 0 count)) out') f a in
-    (p.1, rw (p.0, c, append_assoc, ← size_of n h) e)
+sizes_again n count out out' end r a h c e = (a.1, rw (a.0, c, append_assoc, ← size_of n h) e)
 
 pub sizes_done : (n : ℕ) (out : List ℕ) (end : ℕ) → 5 ≤ n → take end out ++ lines_in (sessions_up n (5 - n)) ≡ text_of → take end out ≡ text_of
 unfolding lines_in accepted_in those lines_of sessions_up
 sizes_done n out end h e = let z : 5 - n ≡ 0 = omega arith in sym (append-nil (take end out)) ∙ (rw z at e)
 
 -- they have no room: so the text is longer
-pub text_longer : (n count : ℕ) (out out' : List ℕ) (end : ℕ) (l : Listing) → l ≡ Full → Adds out end (lines_in (sessions_from n 0 count)) out' l → n < 5
+pub text_longer : (n count : ℕ) (out out' : List ℕ) (end : ℕ) → Adds out end (lines_in (sessions_from n 0 count)) out' None → n < 5
     → count ≡ power n → end ≤ length out → take end out ++ lines_in (sessions_up n (5 - n)) ≡ text_of → 29696 < length text_of
-text_longer n count out out' end l f a h c k e =
+text_longer n count out out' end a h c k e =
     let s = lines_in (sessions_from n 0 (power n)) in
     let up = lines_in (sessions_up n (5 - n)) in
     let more = lines_in (sessions_up (n + 1) (5 - (n + 1))) in
     let whole : length text_of ≡ end + length up = ap length (sym e) ∙ length-append (take end out) up ∙ ap (λ (i : ℕ). i + length up) (length-take-le end out k) in
     let part : length up ≡ length s + length more = ap length (size_of n h) ∙ length-append s more in
-    let full : 29696 < end + length s = rw c at (subst (Adds out end (lines_in (sessions_from n 0 count)) out') f a) in
+    let full : 29696 < end + length s = rw c at a in
     omega (arith, whole, part, full)
 
 -- how many sessions there are of each length

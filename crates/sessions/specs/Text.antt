@@ -1,5 +1,5 @@
 -- The text of the sessions, and what the functions that put it hand back.
-use Rattle.std.specs.Prelude.{ℕ, ◌+◌, ◌≤◌, ◌<◌, ◌≡◌, Bool, false, not, List, [], ◌∷◌, ◌++◌, length, take, get_or, eqb}
+use Rattle.std.specs.Prelude.{Option, Some, None, is_some, unwrap_or, ℕ, ◌+◌, ◌≤◌, ◌<◌, ◌≡◌, Bool, false, not, List, [], ◌∷◌, ◌++◌, length, take, get_or, eqb}
 use Rattle.io.specs.Counts.{IsPrefixLen}
 use Rattle.model.specs.Lists.{keep}
 use Rattle.model.specs.Answers.{refused}
@@ -10,9 +10,7 @@ use Rattle.model.specs.Commands.{Call, format, recover, begin, write, drop_page,
 use Rattle.model.specs.Sessions.{command_of, fresh, call_cuts, cuts, accepted_in, short_sessions}
 use Rattle.model.specs.declared.Place.{Place}
 use Rattle.text.specs.Text.{listed, Put}
-use Rattle.sessions.specs.declared.Progress.{Progress}
-use Rattle.sessions.specs.declared.Listing.{Listing}
-use Rattle.sessions.specs.declared.Listing.TheVariants.{Listed, Full}
+use Rattle.sessions.specs.declared.Rig.{Rig}
 
 -- "each cut's 16 entries likewise, a blank before"
 abbrev pub map_text : List ℕ → List ℕ
@@ -39,14 +37,14 @@ unfoldable pub text_of : List ℕ
 text_of = lines_of short_sessions
 
 -- ---- what the text comes to in a buffer: it stands at the front, or is longer than what is kept for it
-abbrev pub Lists : List ℕ → Listing → Type 0
-Lists out (Listed r) = (take r out ≡ text_of) × IsPrefixLen r out
-Lists out Full = 29696 < length text_of
+abbrev pub Lists : List ℕ → Option ℕ → Type 0
+Lists out (Some r) = (take r out ≡ text_of) × IsPrefixLen r out
+Lists out None = 29696 < length text_of
 
 -- the same of a part of it, behind the first `at` bytes
-abbrev pub Adds : List ℕ → ℕ → List ℕ → List ℕ → Listing → Type 0
-Adds before at text after (Listed r) = (take r after ≡ take at before ++ text) × (r ≤ length after)
-Adds before at text after Full = 29696 < at + length text
+abbrev pub Adds : List ℕ → ℕ → List ℕ → List ℕ → Option ℕ → Type 0
+Adds before at text after (Some r) = (take r after ≡ take at before ++ text) × (r ≤ length after)
+Adds before at text after None = 29696 < at + length text
 
 -- ---- what tells beforehand whether a call programs a page, if it is not refused
 -- a page of this identifier is held
@@ -67,8 +65,12 @@ will_program (read lpn) ps = false
 will_program checkpoint ps = false
 will_program reclaim ps = false
 
--- ---- what one command of a session gives back: the world after it, whether it was not refused, and its maps if so
-pub record Turned (c : ℕ) (w v : World) (before : List ℕ) (at : ℕ) (after : List ℕ) (t : Progress) : Type 0 where
+-- ---- the array, the map and the hold of a rig, with its state
+abbrev pub world_of : Rig → World
+world_of r = record { array = r.array; map = r.map; hold = r.hold; state = r.device.state }
+
+-- ---- what one command of a session gives back: the world after it, and the end of its maps if it was not refused
+pub record Turned (c : ℕ) (w v : World) (before : List ℕ) (at : ℕ) (after : List ℕ) (end : Option ℕ) : Type 0 where
   pub world : v ≡ (exec (command_of c) w).world
-  pub answer : t.accepted ≡ not (refused (exec (command_of c) w).answer)
-  pub put : Put before at (keep t.accepted (maps_text (call_cuts (command_of c) w))) 674 after t.end
+  pub answer : is_some end ≡ not (refused (exec (command_of c) w).answer)
+  pub put : Put before at (keep (is_some end) (maps_text (call_cuts (command_of c) w))) 674 after (unwrap_or end at)

@@ -4,7 +4,7 @@
 
 ghost use Rattle.std.specs.Prelude.{◌≡◌, true, ◌<◌};
 ghost use Rattle.model.specs.Geometry.{map_pages};
-ghost use Rattle.model.specs.Answers.{number, in_table};
+ghost use Rattle.model.specs.Answers.{refusal_number, number};
 ghost use Rattle.model.specs.World.{World};
 ghost use Rattle.model.specs.Frame.{work_ok};
 ghost use Rattle.model.specs.Strides.{map_stride, zone_stride, page_stride, other_stride, first_stride, is_checkpoint, checkpoint_stride};
@@ -19,13 +19,12 @@ pub struct Stride {
     pub state: State,
 }
 
-/// What a refusal with number n leaves: the state as it was.
-pub fn refused(s: State, n: u8) -> Stride
-    requires { in_table n ≡ true }
-    ensures { (number result.answer ≡ n) × (result.state ≡ s) }
+/// What a refusal leaves: the state as it was.
+pub fn refused(s: State, why: Refusal) -> Stride
+    ensures { (number result.answer ≡ refusal_number why) × (result.state ≡ s) }
 {
     Stride {
-        answer: answers::refusal(n),
+        answer: Answer::Refused(why),
         state: s,
     }
 }
@@ -37,7 +36,7 @@ fn map_stride(s: State, array: &mut [u8], map: &[u16], q: usize, i: usize) -> St
 {
     let d = checkpoint::map_data(map, i);
     let spare = checkpoint::map_spare(i, s.checkpoint + 1);
-    let k = (s.front as usize) * (s.geometry.pages as usize) + (q + i);
+    let k = s.front as usize * s.geometry.pages as usize + (q + i);
     flash::program_at(array, k, &d, spare);
     let t = places::with_work(s, s.front, q as u8, Work::Checkpoint((i + 1) as u16));
     Stride {
@@ -52,13 +51,12 @@ fn zone_stride(s: State, array: &mut [u8], map: &[u16], q: usize, i: usize) -> S
     ensures { Strode (zone_stride q i) s array.old map.now (number result.answer) array.new map.now result.state }
 {
     let g = s.geometry;
-    let ps = s.places;
     let old = s.zones;
-    let z = zones::slide(g, array, ps, old);
+    let z = zones::slide(g, array, s.places, old);
     let n = s.checkpoint + 1;
     let d = checkpoint::zone_data(s.version, z);
     let spare = checkpoint::zone_spare(ranges::map_pages(g), n);
-    let k = (s.front as usize) * (g.pages as usize) + (q + i);
+    let k = s.front as usize * g.pages as usize + (q + i);
     flash::program_at(array, k, &d, spare);
     let t1 = places::with_work(s, s.front, 0, Work::Idle);
     let t2 = places::with_zones(t1, z);
@@ -74,8 +72,7 @@ fn page_stride(s: State, array: &mut [u8], map: &[u16], q: usize, i: usize) -> S
     requires { Next s array.old map.now q i }
     ensures { Strode (page_stride q i) s array.old map.now (number result.answer) array.new map.now result.state }
 {
-    let g = s.geometry;
-    if i < ranges::map_pages(g) {
+    if i < ranges::map_pages(s.geometry) {
         return map_stride(s, array, map, q, i);
     }
     zone_stride(s, array, map, q, i)
@@ -100,10 +97,9 @@ fn first_stride(s: State, array: &mut [u8], map: &[u16]) -> Stride
     requires { Fit s array.old map.now × (s.checkpoint < 4294967294) }
     ensures { Strode first_stride s array.old map.now (number result.answer) array.new map.now result.state }
 {
-    let g = s.geometry;
-    let pages = g.pages as usize;
+    let pages = s.geometry.pages as usize;
     let used = flash::used_in(array, pages, s.front as usize);
-    if pages - used < ranges::map_pages(g) + 1 {
+    if pages - used < ranges::map_pages(s.geometry) + 1 {
         return other_stride(s, array, map);
     }
     page_stride(s, array, map, used, 0)
@@ -116,15 +112,8 @@ pub fn checkpoint_stride(s: State, array: &mut [u8], map: &[u16], work: Work) ->
 {
     match work {
         Work::Idle => first_stride(s, array, map),
-        Work::Format(_) => Stride {
-            answer: Answer::Refused(Refusal::Busy),
-            state: s,
-        },
         Work::Checkpoint(k) => page_stride(s, array, map, s.first as usize, k as usize),
-        Work::Reclaim => Stride {
-            answer: Answer::Refused(Refusal::Busy),
-            state: s,
-        },
+        Work::Format(_) | Work::Reclaim => refused(s, Refusal::Busy),
     }
 }
 
@@ -132,10 +121,5 @@ pub fn checkpoint_stride(s: State, array: &mut [u8], map: &[u16], work: Work) ->
 pub fn is_checkpoint(work: Work) -> bool
     ensures { result ≡ is_checkpoint work }
 {
-    match work {
-        Work::Idle => false,
-        Work::Format(_) => false,
-        Work::Checkpoint(_) => true,
-        Work::Reclaim => false,
-    }
+    matches!(work, Work::Checkpoint(_))
 }

@@ -5,6 +5,7 @@ use native.Mathlib.Omega.{arith}
 use mathlib.Core.List.{List}
 use lib.ListN.{length, take, get_or}
 use lib.Count.{ones, ones-le, ones_cat}
+use Rattle.std.specs.Int.{w64, to_le_bytes}
 use Rattle.model.specs.Bytes.{zero_bits}
 use Rattle.page.specs.Words.{le64}
 use Rattle.page.proofs.Words.{more64}
@@ -25,7 +26,7 @@ byte_off x k m e =
     let s : y ≡ (y / 256) * 256 + y % 256 = omega arith in
     ap ones s ∙ ones_cat 8 (y / 256) (y % 256) (omega arith) ∙ ap (λ z. ones z + ones (y % 256)) e
 
-pub ones_word : (x : ℕ) → x < 18446744073709551616
+ones_word : (x : ℕ) → x < 18446744073709551616
     → ones x ≡ ones (x % 256) + ones (x / 256 % 256) + (ones (x / 65536 % 256) + ones (x / 16777216 % 256)) + (ones (x / 4294967296 % 256) + ones (x / 1099511627776 % 256) + (ones (x / 281474976710656 % 256) + ones (x / 72057594037927936 % 256)))
 ones_word x h =
     let all : x / 1 ≡ x = omega arith in
@@ -44,6 +45,11 @@ ones_word x h =
       byte_off x 281474976710656 72057594037927936 (omega arith),
       ap ones last,
     )
+
+-- b: the bytes of the word, low byte first
+pub ones_bytes : (x : ℕ) (b : List ℕ) → x < 18446744073709551616 → b ≡ to_le_bytes w64 x
+    → ones x ≡ ones (get_or b 0 0) + ones (get_or b 1 0) + (ones (get_or b 2 0) + ones (get_or b 3 0)) + (ones (get_or b 4 0) + ones (get_or b 5 0) + (ones (get_or b 6 0) + ones (get_or b 7 0)))
+ones_bytes x b h e = rw e (ones_word x h)
 
 -- the ones of two words side by side, the lower of 32 bits
 pub joined : (low high : ℕ) → low < 4294967296 → ones (low + 4294967296 * high) ≡ ones high + ones low

@@ -3,19 +3,15 @@ use Rattle.std.specs.Prelude.{ℕ, ◌+◌, ◌*◌, List, [], ◌∷◌}
 use Rattle.std.specs.Int.Count.{ones}
 use Rattle.table.specs.declared.Pair.{Pair}
 use Rattle.table.specs.declared.Sum.{Sum}
-use Rattle.table.specs.declared.PairSum.{PairSum}
 
--- the ones of some words, and of a pair
-unfoldable pub ones_in : List ℕ → ℕ
-ones_in [] = 0
-ones_in (x ∷ xs) = ones x + ones_in xs
-
+-- the ones of a pair, and of some pairs
 abbrev pub ones_of : Pair → ℕ
 ones_of p = ones p.left + ones p.right
 
--- each bit of a sum counts one, two or four
-abbrev pub worth : Sum → ℕ
-worth s = ones s.one + 2 * ones s.two + 4 * ones s.four
+unfoldable pub ones_in : List Pair → ℕ
+ones_in [] = 0
+ones_in (p ∷ ps) = ones_of p + ones_in ps
 
-abbrev pub pairs_worth : PairSum → ℕ
-pairs_worth s = ones_of s.one + 2 * ones_of s.two + 4 * ones_of s.four
+-- each bit of a sum counts one, two or four
+abbrev pub worth : {T : Type 0} → (T → ℕ) → Sum T → ℕ
+worth count s = count s.one + 2 * count s.two + 4 * count s.four

@@ -1,10 +1,10 @@
 -- Texts put one behind the other. Assumes nothing.
 use mathlib.Core.Path.{◌≡◌, refl, sym, ap, ◌∙◌}
 use mathlib.Core.List.{List, [], ◌++◌, append_assoc, append-nil}
-use Prim.Native.Nat.{ℕ, ◌+◌, ◌-◌, ◌≤◌}
+use Prim.Native.Nat.{ℕ, ◌+◌, ◌≤◌}
 use native.Mathlib.Omega.{arith}
-use lib.ListN.{length, take, drop, length-append, length-take, length-drop}
-use lib.Seq.{take-length, take_at, take-take, length-take-le}
+use lib.ListN.{length, take, length-append, length-take}
+use lib.Seq.{take_at, take-take, length-take-le}
 use Rattle.text.specs.Text.{Put}
 
 -- a text behind another
@@ -32,18 +32,4 @@ put_dropped {a} {s} {b} {at} {m} {r} n h x =
       is = sym (take-take at r b wide) ∙ ap (take at) x.is ∙ take_at (take at a) s at (length-take-le at a h) ∙ sym (append-nil (take at a));
       far = omega arith;
       same = x.same;
-    }
-
--- what a copy puts, ys the part it was lent as it is then
-pub put_copied : (out text ys : List ℕ) (at n : ℕ) → at + length text ≤ length out → n ≡ length text
-    → ys ≡ take (length text) text ++ drop (length text) (take (length out - at) (drop at out))
-    → Put out at text (length text) (take at out ++ (ys ++ drop (length out - at) (drop at out))) (at + n)
-put_copied out text ys at n h e f =
-    let left : List ℕ = drop (length text) (take (length out - at) (drop at out)) in
-    let g : ys ≡ text ++ left = f ∙ ap (λ (u : List ℕ). u ++ left) (take-length text) in
-    let l : length (take at out ++ text) ≡ at + n = simp (length-append, length-take) (omega arith) in
-    record {
-      is = rw (g, append_assoc, ← append_assoc (take at out) text) (take_at (take at out ++ text) _ (at + n) l);
-      far = omega arith;
-      same = rw g (simp (length-append, length-take, length-drop) (omega arith));
     }

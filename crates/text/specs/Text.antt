@@ -1,5 +1,6 @@
 -- Text: numbers in decimal, lists with commas, and what it is to put a text into a buffer.
-use Rattle.std.specs.Prelude.{◌≡◌, ℕ, zero, suc, ◌+◌, ◌/◌, ◌%◌, ◌≤◌, cond, List, [], ◌∷◌, ◌++◌, length, take, eqb, ltb}
+use Rattle.std.specs.List.{AllZip}
+use Rattle.std.specs.Prelude.{◌≡◌, ℕ, zero, suc, ◌+◌, ◌*◌, ◌/◌, ◌%◌, ◌≤◌, cond, List, [], ◌∷◌, ◌++◌, length, take, eqb, ltb}
 
 -- a number in decimal, of at most k digits: the digits of a tenth of it, if there are any, and its last
 unfoldable pub digits_in : ℕ → ℕ → List ℕ
@@ -24,3 +25,9 @@ pub record Put (before : List ℕ) (at : ℕ) (text : List ℕ) (most : ℕ) (af
   pub is : take end after ≡ take at before ++ text
   pub far : end ≤ at + most
   pub same : length after ≡ length before
+
+-- ---- the items of a list put so, each of them a number by R
+pub record PutList {X : Type 0} (R : X → ℕ → Type 0) (before : List ℕ) (at : ℕ) (items : List X) (after : List ℕ) (end : ℕ) : Type 0 where
+  pub numbers : List ℕ
+  pub are : AllZip R items numbers
+  pub put : Put before at (listed 0 numbers) (21 * length items) after end

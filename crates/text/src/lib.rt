@@ -1,16 +1,18 @@
 // Text put into a buffer: bytes, numbers in decimal, lists of numbers with commas.
+// A place in the buffer is handed on beside it, since who puts a text may give it up and put the next one in its place.
 #![tactic(auto)]
 
-ghost use Rattle.std.specs.Prelude.{◌+◌, ◌*◌, ◌≤◌, ◌++◌, length, take};
-ghost use Rattle.text.specs.Text.{decimal, comma, listed, Put};
+ghost use Rattle.std.specs.Prelude.{◌+◌, ◌*◌, ◌≤◌, ◌++◌, length};
+ghost use Rattle.text.specs.Text.{decimal, comma, Put, PutList};
 
 /// Puts bytes behind the first `at` of out, and answers how many stand there then.
 pub fn put(out: &mut [u8], at: usize, text: &[u8]) -> usize
     requires { at + length text.now ≤ length out.old }
     ensures { Put out.old at text.now (length text.now) out.new result }
 {
-    let n = octets::copy(text, &mut out[at..]);
-    at + n
+    let end = at + text.len();
+    out[at..end].copy_from_slice(text);
+    end
 }
 
 /// Puts a number in decimal.
@@ -35,34 +37,14 @@ fn put_item(out: &mut [u8], at: usize, before: usize, n: u64) -> usize
     put_number(out, a, n)
 }
 
-/// Puts the first n numbers of a list, with commas between.
-pub fn put_list(out: &mut [u8], at: usize, list: &[u8], n: u8) -> usize
+/// Puts the numbers of a list, with commas between.
+pub fn put_list<T: Copy + Into<u64>>(out: &mut [u8], at: usize, list: &[T]) -> usize
     requires { at + 21 * length list.now ≤ length out.old }
-    ensures { Put out.old at (listed 0 (take n list.now)) (21 * length list.now) out.new result }
-{
-    let most = n as usize;
-    let mut end = at;
-    let mut i: usize = 0;
-    while i < list.len() {
-        if most <= i {
-            return end;
-        }
-        end = put_item(out, end, i, list[i] as u64);
-        i += 1;
-    }
-    end
-}
-
-/// Puts the entries of a map, with commas between.
-pub fn put_entries(out: &mut [u8], at: usize, entries: &[u16]) -> usize
-    requires { at + 21 * length entries.now ≤ length out.old }
-    ensures { Put out.old at (listed 0 entries.now) (21 * length entries.now) out.new result }
+    ensures { PutList T.converts out.old at list.now out.new result }
 {
     let mut end = at;
-    let mut i: usize = 0;
-    while i < entries.len() {
-        end = put_item(out, end, i, entries[i] as u64);
-        i += 1;
+    for (i, &x) in list.iter().enumerate() {
+        end = put_item(out, end, i, x.into());
     }
     end
 }

@@ -14,7 +14,8 @@ use std::io::Write;
 fn zero_count(x: u8) -> u32
     ensures { result ≡ 8 - ones x }
 {
-    8 - u8::count_ones(x)
+    // by the ones, in which the rule of the table is stated
+    8 - x.count_ones()
 }
 
 /// Puts the lines of all 256 byte values at the front of out, and answers their length.
@@ -22,10 +23,8 @@ fn text(out: &mut [u8; 8192]) -> usize
     ensures { (take result out.new ≡ lines_of (counts 0 256)) × IsPrefixLen result out.new }
 {
     let mut end: usize = 0;
-    let mut x: usize = 0;
-    while x < 256 {
-        end = lines::number_line(out, end, b"", zero_count(x as u8) as u64);
-        x += 1;
+    for x in 0..256usize {
+        end = lines::number_line(out, end, b"", u64::from(zero_count(x as u8)));
     }
     end
 }

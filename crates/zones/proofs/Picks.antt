@@ -1,17 +1,14 @@
--- Those of some blocks that pass a test, put behind a list one by one: what a turn of the loop shows. Assumes nothing.
+-- Those of some blocks that pass a test, listed one by one: what a turn of the loop shows. Assumes nothing.
 use mathlib.Core.Path.{◌≡◌, sym, ap, ◌∙◌}
 use mathlib.Core.Bool.{Bool, true, false}
-use mathlib.Core.List.{List, [], ◌∷◌, ◌++◌, append_assoc, append-nil}
+use mathlib.Core.List.{List, [], ◌∷◌, ◌++◌, append-nil}
 use Prim.Native.Nat.{ℕ, suc, ◌+◌, ◌≤◌, ◌<◌}
 use native.Mathlib.Numerals.{add-one}
 use native.Mathlib.Omega.{arith}
-use lib.ListN.{length, take, get_or, length-append}
+use lib.ListN.{length, take, get_or}
 use lib.Seq.{take-suc, take_all, length-take-le}
 use Rattle.model.specs.Lists.{all, those, keep}
 use Rattle.arrays.specs.Tests.{all_cons, all_head, all_tail, those_nil, those_yes, those_no, those_append}
-use Rattle.blocks.specs.declared.Blocks.{Blocks}
-use Rattle.blocks.specs.Blocks.{blocks_of, list_of}
-use Rattle.blocks.proofs.Kept.{kept_list, kept_count}
 
 module _ (q : ℕ → Bool) where
   pub length_those : (xs : List ℕ) → length (those q xs) ≤ length xs
@@ -44,23 +41,15 @@ module _ (q : ℕ → Bool) where
     pub more_yes : q (get_or bs i 0) ≡ true → those q (take (i + 1) bs) ≡ those q (take i bs) ++ (get_or bs i 0 ∷ [])
     more_yes y = one_more ∙ rw (those_yes q (get_or bs i 0) [] y, those_nil q)
 
--- out is `start` with those of the first i blocks of bs
-module _ (q : ℕ → Bool) (start bs : List ℕ) (i : ℕ) (out : Blocks) (e : out ≡ blocks_of (start ++ those q (take i bs))) where
-  pub picks_few : i ≤ length bs → out.n ≤ length start + i
-  picks_few h =
-      let c = kept_count out (start ++ those q (take i bs)) e in
-      let l = length-append start (those q (take i bs)) in
-      let t = length_those q (take i bs) in
-      let n = length-take-le i bs h in
-      omega arith
+    pub few_more : length (those q (take i bs)) ≤ i
+    few_more = let l = length_those (take i bs) in let n = length-take-le i bs (omega arith) in omega arith
 
-  pub picks_kept : out ≡ blocks_of (list_of out)
-  picks_kept = e ∙ ap blocks_of (sym (kept_list out (start ++ those q (take i bs)) e))
+    -- out has those of the first i blocks
+    pub picks_yes : (out r : List ℕ) → out ≡ those q (take i bs) → q (get_or bs i 0) ≡ true → r ≡ out ++ (get_or bs i 0 ∷ []) → r ≡ those q (take (i + 1) bs)
+    picks_yes out r e y f = f ∙ rw e (sym (more_yes y))
 
-  pub picks_next : (t : Bool) → t ≡ q (get_or bs i 0) → (r : Blocks) → r ≡ blocks_of (list_of out ++ keep t (get_or bs i 0 ∷ [])) → i < length bs
-      → r ≡ blocks_of (start ++ those q (take (i + 1) bs))
-  picks_next true y r f h = f ∙ rw (kept_list out (start ++ those q (take i bs)) e, more_yes q bs i h (sym y), append_assoc)
-  picks_next false n r f h = f ∙ rw (append-nil, kept_list out (start ++ those q (take i bs)) e, more_no q bs i h (sym n))
+    pub picks_no : (out : List ℕ) → out ≡ those q (take i bs) → q (get_or bs i 0) ≡ false → out ≡ those q (take (i + 1) bs)
+    picks_no out e n = e ∙ sym (more_no n)
 
-  pub picks_end : length bs ≤ i → out ≡ blocks_of (start ++ those q bs)
-  picks_end h = e ∙ rw (take_all i bs h)
+  pub picks_all : (bs : List ℕ) (i : ℕ) (out : List ℕ) → length bs ≤ i → out ≡ those q (take i bs) → out ≡ those q bs
+  picks_all bs i out h e = e ∙ ap (those q) (take_all i bs h)

@@ -1,47 +1,26 @@
 -- Torn pages counted, a page and then a block at a time. Assumes nothing.
-use mathlib.Core.Path.{◌≡◌}
-use mathlib.Core.Bool.{true, false}
+use mathlib.Core.Path.{◌≡◌, refl, ap, ◌∙◌}
+use mathlib.Core.Bool.{Bool}
 use mathlib.Core.List.{List, ◌∷◌}
-use Prim.Native.Nat.{ℕ, suc, ◌+◌, ◌-◌, ◌*◌, ◌≤◌, ◌<◌}
+use Prim.Native.Nat.{ℕ, zero, suc, ◌+◌, ◌*◌, ◌≤◌, ◌<◌}
 use native.Mathlib.Numerals.{add-one}
-use native.Mathlib.Omega.{arith}
 use lib.ListN.{length, drop, get_or, drop_of_length-le}
 use lib.Seq.{drop-cons}
+use Rattle.std.specs.Prelude.{count_by}
+use Rattle.std.specs.List.{range_with_len}
 use Rattle.model.specs.Lists.{count, up_from}
 use Rattle.model.specs.Page.{torn_at}
 use Rattle.model.specs.Zones.{torn_in}
+use Rattle.arrays.specs.Chains.{count_like}
 
--- ---- the n pages from page k on, of which i are counted
-module _ (xs : List ℕ) (k n : ℕ) where
-  -- those that are left
-  abbrev pub rest : ℕ → ℕ
-  rest i = count (torn_at xs) (up_from (k + i) (n - i))
+-- ---- the n pages from page k on
+range_up : (k n : ℕ) → range_with_len k n ≡ up_from k n
+unfolding up_from
+range_up k zero = refl
+range_up k (suc n) = ap (λ (l : List ℕ). k ∷ l) (rw add-one (range_up (suc k) n))
 
-  pub rest_start : rest 0 ≡ count (torn_at xs) (up_from k n)
-  rest_start =
-      let a : k + 0 ≡ k = omega arith in
-      let b : n - 0 ≡ n = omega arith in
-      rw (a, b)
-
-  module _ (i : ℕ) (h : i < n) where
-    up_step : up_from (k + i) (n - i) ≡ (k + i) ∷ up_from (k + (i + 1)) (n - (i + 1))
-    unfolding up_from
-    up_step =
-        let m : n - i ≡ suc (n - (i + 1)) = omega arith in
-        let f : k + (i + 1) ≡ suc (k + i) = omega arith in
-        rw (m, f)
-
-    pub rest_torn : torn_at xs (k + i) ≡ true → rest i ≡ suc (rest (i + 1))
-    unfolding count
-    rest_torn t = rw (up_step, t)
-
-    pub rest_other : torn_at xs (k + i) ≡ false → rest i ≡ rest (i + 1)
-    unfolding count
-    rest_other t = rw (up_step, t)
-
-  pub rest_end : (i : ℕ) → n ≤ i → rest i ≡ 0
-  unfolding count up_from
-  rest_end i h = let z : n - i ≡ 0 = omega arith in rw z
+pub pages_torn : (q : ℕ → Bool) (k n : ℕ) → count_by q (range_with_len k n) ≡ count q (up_from k n)
+pages_torn q k n = count_like q q (λ x. refl) (range_with_len k n) ∙ ap (count q) (range_up k n)
 
 -- ---- the blocks of a list, p pages a block, of which i are counted
 module _ (xs : List ℕ) (p : ℕ) (bs : List ℕ) (i : ℕ) where

@@ -4,50 +4,78 @@
 // then on it compares numbers from spare areas, and a page of another block is classed, once, where its identifier is wanted.
 #![tactic(auto)]
 
-ghost use Rattle.std.specs.Prelude.{◌≡◌, true, cond, ◌+◌, ◌*◌, ◌≤◌, ◌<◌, [], ◌∷◌, ◌++◌, length, take, get_or};
-ghost use Rattle.model.specs.Lists.{any, keep, those, count, up_from};
+ghost use Rattle.std.specs.Prelude.{◌≡◌, ◌+◌, ◌*◌, ◌≤◌, ◌<◌, ◌∷◌, ◌++◌, [], length};
+ghost use Rattle.model.specs.Lists.{any, those, count, up_from};
 ghost use Rattle.model.specs.Page.{torn_at};
-ghost use Rattle.model.specs.Zones.{entry_at, whole_from, scan_in, scan_of, torn_in, on_pages, staying, leaving, slide, unavailable_of};
+ghost use Rattle.model.specs.Zones.{entry_at, whole_from, scan_in, scan_of, torn_in, on_pages, is_full, staying, leaving, slide, unavailable_of};
 ghost use Rattle.flash.specs.Ranges.{Within};
-ghost use Rattle.blocks.specs.Blocks.{blocks_of, list_of};
-ghost use Rattle.zones.specs.Judging.{id_at, ids_in, wanted_id, wanted_by, holds_by, full_is, Ready, Near, Room, Leaving};
+ghost use Rattle.zones.specs.Judging.{ids_in, wanted_id, wanted_by, holds_by, Ready, Near, Leaving};
 
 use blocks::Blocks;
 use model::{Geometry, Place, State, Zones};
 use refill::Taken;
+use std::marker::Model;
+
+/// Identifiers, at most 192.
+#[derive(Drop)]
+struct Ids {
+    list: [u32; 192],
+    n: usize,
+}
+
+impl Model for Ids {
+    ghost use Rattle.std.specs.Prelude.{ℕ, ◌≤◌, List, take};
+
+    ghost Value = { List ℕ };
+
+    ghost view = { λ ids. take ids.n ids.list };
+
+    ghost invariant = { λ ids. ids.n ≤ 192 };
+}
+
+impl Ids {
+    /// No identifier.
+    fn none() -> Self
+        ensures { result ≡ [] }
+    {
+        Ids {
+            list: [0; 192],
+            n: 0,
+        }
+    }
+
+    /// One more at the end.
+    fn push(&mut self, id: u32)
+        requires { length self.old < 192 }
+        ensures { self.new ≡ self.old ++ (id ∷ []) }
+    {
+        self.list[self.n] = id;
+        self.n += 1;
+    }
+
+    /// The identifiers as a slice.
+    fn as_slice(&self) -> &[u32]
+        ensures { result.now ≡ self.now }
+    {
+        &self.list[..self.n]
+    }
+}
 
 /// Whether page k is whole and has the identifier.
 fn has_id(array: &[u8], k: usize, id: u32) -> bool
     requires { k * 528 + 528 ≤ length array.now }
     ensures { result ≡ on_pages id (entry_at array.now k) }
 {
-    let s = flash::spare_at(array, k);
-    if s.id != id {
-        return false;
-    }
-    flash::is_whole(array, k)
+    flash::spare_at(array, k).id == id && flash::is_whole(array, k)
 }
 
-/// The first page of the i-th of some blocks.
-fn first_page(bs: &[u8], i: usize, pages: usize) -> usize
-    requires { (i < length bs.now) × (get_or bs.now i 0 * pages < 18446744073709551616) }
-    ensures { result ≡ get_or bs.now i 0 * pages }
+/// Whether a whole page of block b has the identifier.
+fn block_has_id(array: &[u8], pages: usize, b: usize, id: u32) -> bool
+    requires { b * pages * 528 + pages * 528 ≤ length array.now }
+    ensures { result ≡ on_pages id (whole_from array.now (b * pages) pages) }
 {
-    bs[i] as usize * pages
-}
-
-/// Whether a whole page of the i-th block has the identifier.
-fn block_has_id(array: &[u8], pages: usize, bs: &[u8], i: usize, id: u32) -> bool
-    requires { (i < length bs.now) × (get_or bs.now i 0 * pages * 528 + pages * 528 ≤ length array.now) }
-    ensures { result ≡ on_pages id (whole_from array.now (get_or bs.now i 0 * pages) pages) }
-{
-    let first = first_page(bs, i, pages);
-    for j in 0..pages {
-        if has_id(array, first + j, id) {
-            return true;
-        }
-    }
-    false
+    let first = b * pages;
+    (first..first + pages).any(|k| has_id(array, k, id))
 }
 
 /// Whether a whole page of these blocks has the identifier.
@@ -55,12 +83,8 @@ pub fn id_in(array: &[u8], pages: usize, bs: &[u8], id: u32) -> bool
     requires { Within (length array.now) pages bs.now }
     ensures { result ≡ on_pages id (scan_in array.now pages bs.now) }
 {
-    for i in 0..bs.len() {
-        if block_has_id(array, pages, bs, i, id) {
-            return true;
-        }
-    }
-    false
+    bs.iter()
+        .any(|&b| block_has_id(array, pages, usize::from(b), id))
 }
 
 /// Whether a whole page in scan order has the identifier.
@@ -68,30 +92,20 @@ pub fn id_scanned(g: Geometry, array: &[u8], z: Zones, id: u32) -> bool
     requires { Ready g array.now z }
     ensures { result ≡ on_pages id (scan_of array.now g.pages z) }
 {
-    let pages = g.pages as usize;
-    let u = z.unavailable;
-    let nu = z.nu as usize;
-    if id_in(array, pages, &u[..nu], id) {
-        return true;
-    }
-    let a = z.available;
-    let na = z.na as usize;
-    id_in(array, pages, &a[..na], id)
+    let pages = usize::from(g.pages);
+    id_in(array, pages, &z.unavailable[..usize::from(z.nu)], id)
+        || id_in(array, pages, &z.available[..usize::from(z.na)], id)
 }
 
-/// How many pages of the i-th block are torn.
-fn block_torn(array: &[u8], pages: usize, bs: &[u8], i: usize) -> usize
-    requires { (i < length bs.now) × (get_or bs.now i 0 * pages * 528 + pages * 528 ≤ length array.now) }
-    ensures { (result ≡ count (torn_at array.now) (up_from (get_or bs.now i 0 * pages) pages)) × (result ≤ pages) }
+/// How many pages of block b are torn.
+fn block_torn(array: &[u8], pages: usize, b: usize) -> usize
+    requires { b * pages * 528 + pages * 528 ≤ length array.now }
+    ensures { (result ≡ count (torn_at array.now) (up_from (b * pages) pages)) × (result ≤ pages) }
 {
-    let first = first_page(bs, i, pages);
-    let mut torn: usize = 0;
-    for j in 0..pages {
-        if flash::is_torn(array, first + j) {
-            torn += 1;
-        }
-    }
-    torn
+    let first = b * pages;
+    (first..first + pages)
+        .filter(|&k| flash::is_torn(array, k))
+        .count()
 }
 
 /// How many pages of these blocks are torn.
@@ -100,68 +114,41 @@ pub fn torn_in(array: &[u8], pages: usize, bs: &[u8]) -> usize
     ensures { result ≡ torn_in array.now pages bs.now }
 {
     let mut torn: usize = 0;
-    for i in 0..bs.len() {
-        torn += block_torn(array, pages, bs, i);
+    for &b in bs {
+        torn += block_torn(array, pages, usize::from(b));
     }
     torn
 }
 
-/// The identifier of page k, or 0 where the page is not whole.
-fn id_at(array: &[u8], k: usize) -> u32
-    requires { k * 528 + 528 ≤ length array.now }
-    ensures { result ≡ id_at array.now k }
+/// Lists the identifiers other than 0 of the whole pages of block b behind the others.
+fn list_block(array: &[u8], pages: usize, b: usize, near: &mut Ids)
+    requires { (b * pages * 528 + pages * 528 ≤ length array.now) × (length near.old + pages ≤ 192) }
+    ensures { near.new ≡ near.old ++ ids_in (whole_from array.now (b * pages) pages) }
 {
-    let s = flash::spare_at(array, k);
-    if s.id == 0 {
-        return 0;
-    }
-    if !flash::is_whole(array, k) {
-        return 0;
-    }
-    s.id
-}
-
-/// Lists the identifiers other than 0 of the whole pages of the i-th block, behind the n already listed; returns how many are listed.
-fn list_block(array: &[u8], pages: usize, bs: &[u8], i: usize, near: &mut [u32], n: usize) -> usize
-    requires { ((i < length bs.now) × (get_or bs.now i 0 * pages * 528 + pages * 528 ≤ length array.now)) × (n + pages ≤ length near.old) }
-    ensures { (take result near.new ≡ take n near.old ++ ids_in (whole_from array.now (get_or bs.now i 0 * pages) pages)) × (result ≤ n + pages) }
-{
-    let first = first_page(bs, i, pages);
-    let mut m = n;
-    for j in 0..pages {
-        let id = id_at(array, first + j);
-        if id == 0 {
-            continue;
+    let first = b * pages;
+    for k in first..first + pages {
+        let id = flash::spare_at(array, k).id;
+        if id != 0 && flash::is_whole(array, k) {
+            near.push(id);
         }
-        near[m] = id;
-        m += 1;
     }
-    m
 }
 
-/// Lists the identifiers other than 0 of the whole pages of the near blocks; returns how many are listed.
-fn list_near(array: &[u8], pages: usize, bs: &[u8], near: &mut [u32]) -> usize
-    requires { Near array.now pages bs.now × (length near.old ≡ 192) }
-    ensures { (take result near.new ≡ ids_in (scan_in array.now pages bs.now)) × (result ≤ 192) }
+/// Lists the identifiers other than 0 of the whole pages of the near blocks.
+fn list_near(array: &[u8], pages: usize, bs: &[u8], near: &mut Ids)
+    requires { Near array.now pages bs.now × (near.old ≡ []) }
+    ensures { near.new ≡ ids_in (scan_in array.now pages bs.now) }
 {
-    let mut n: usize = 0;
-    for i in 0..bs.len() {
-        n = list_block(array, pages, bs, i, near, n);
+    for &b in bs {
+        list_block(array, pages, usize::from(b), near);
     }
-    n
 }
 
 /// Whether an identifier is of an active transaction or among the near ones.
 fn is_wanted(ids: [u32; State::PLACES], near: &[u32], id: u32) -> bool
     ensures { result ≡ wanted_id ids near.now id }
 {
-    if id == 0 {
-        return false;
-    }
-    if places::is_active_in(ids, id) {
-        return true;
-    }
-    places::among(near, id)
+    id != 0 && (places::is_active_in(ids, id) || places::among(near, id))
 }
 
 /// Whether page k is whole and wanted.
@@ -169,11 +156,7 @@ fn page_wanted(array: &[u8], ids: [u32; State::PLACES], near: &[u32], k: usize) 
     requires { k * 528 + 528 ≤ length array.now }
     ensures { result ≡ any (wanted_by ids near.now) (entry_at array.now k) }
 {
-    let s = flash::spare_at(array, k);
-    if !is_wanted(ids, near, s.id) {
-        return false;
-    }
-    flash::is_whole(array, k)
+    is_wanted(ids, near, flash::spare_at(array, k).id) && flash::is_whole(array, k)
 }
 
 /// Whether a whole page of block b is wanted.
@@ -188,69 +171,47 @@ fn holds_wanted(
     ensures { result ≡ holds_by array.now pages ids near.now b }
 {
     let first = b * pages;
-    for i in 0..pages {
-        if page_wanted(array, ids, near, first + i) {
-            return true;
+    (first..first + pages).any(|k| page_wanted(array, ids, near, k))
+}
+
+/// Those of some blocks that have a whole page which is wanted.
+fn judge(array: &[u8], pages: usize, ids: [u32; State::PLACES], near: &[u32], bs: &[u8]) -> Blocks
+    requires { Within (length array.now) pages bs.now }
+    ensures { result ≡ those (holds_by array.now pages ids near.now) bs.now }
+{
+    let mut kept = Blocks::none();
+    for &b in bs {
+        if holds_wanted(array, pages, ids, near, usize::from(b)) {
+            kept = kept.with(b);
         }
-    }
-    false
-}
-
-/// A kept list with b behind it if that is to be taken.
-fn with_if(bs: Blocks, b: u8, taken: bool) -> Blocks
-    requires { (bs.n < 126) × (bs ≡ blocks_of (list_of bs)) }
-    ensures { result ≡ blocks_of (list_of bs ++ keep taken (b ∷ [])) }
-{
-    if !taken {
-        return bs;
-    }
-    blocks::with(bs, b)
-}
-
-/// A list with those of some blocks behind it that have a whole page which is wanted.
-fn judge(
-    out: Blocks,
-    array: &[u8],
-    pages: usize,
-    ids: [u32; State::PLACES],
-    near: &[u32],
-    bs: &[u8],
-) -> Blocks
-    requires { Room array.now pages bs.now out }
-    ensures { result ≡ blocks_of (list_of out ++ those (holds_by array.now pages ids near.now) bs.now) }
-{
-    let mut kept = out;
-    for i in 0..bs.len() {
-        let b = bs[i];
-        kept = with_if(kept, b, holds_wanted(array, pages, ids, near, b as usize));
     }
     kept
 }
 
-/// Whether block b is full, so that it has no clean page; where `full` is false, whether it is not. It is where its last page is not erased.
-fn is_full(array: &[u8], pages: usize, b: usize, full: bool) -> bool
+/// Whether block b is full, so that it has no clean page. It is where its last page is not erased.
+fn is_full(array: &[u8], pages: usize, b: usize) -> bool
     requires { (b * pages * 528 + pages * 528 ≤ length array.now) × (1 ≤ pages) }
-    ensures { result ≡ full_is array.now pages full b }
+    ensures { result ≡ is_full array.now pages b }
 {
     let last = b * pages + (pages - 1);
-    let blank = flash::is_blank(array, last);
-    if full {
-        return !blank;
-    }
-    blank
+    !flash::is_blank(array, last)
 }
 
-/// Those of some blocks that are full, or those that are not.
-fn parted(array: &[u8], pages: usize, bs: &[u8], full: bool) -> Blocks
+/// Those of some blocks that are not full, and those that are.
+fn parted(array: &[u8], pages: usize, bs: &[u8]) -> (Blocks, Blocks)
     requires { Within (length array.now) pages bs.now × (1 ≤ pages) }
-    ensures { result ≡ blocks_of (cond full (leaving array.now pages bs.now) (staying array.now pages bs.now)) }
+    ensures { (result.0 ≡ staying array.now pages bs.now) × (result.1 ≡ leaving array.now pages bs.now) }
 {
-    let mut out = blocks::none();
-    for i in 0..bs.len() {
-        let b = bs[i];
-        out = with_if(out, b, is_full(array, pages, b as usize, full));
+    let mut stay = Blocks::none();
+    let mut leave = Blocks::none();
+    for &b in bs {
+        if is_full(array, pages, usize::from(b)) {
+            leave = leave.with(b);
+        } else {
+            stay = stay.with(b);
+        }
     }
-    out
+    (stay, leave)
 }
 
 /// The unavailable blocks and then the leavers, those of each that have a page which is wanted.
@@ -259,23 +220,16 @@ fn judged(
     pages: usize,
     ids: [u32; State::PLACES],
     z: Zones,
-    stay: Blocks,
-    leave: Blocks,
+    stay: &[u8],
+    leave: &[u8],
 ) -> Blocks
-    requires { Leaving array.now pages z stay leave }
-    ensures { result ≡ blocks_of (those (holds_by array.now pages ids (ids_in (scan_in array.now pages (list_of stay)))) (unavailable_of z ++ list_of leave)) }
+    requires { Leaving array.now pages z stay.now leave.now }
+    ensures { result ≡ those (holds_by array.now pages ids (ids_in (scan_in array.now pages stay.now))) (unavailable_of z ++ leave.now) }
 {
-    let s = stay.list;
-    let ns = stay.n;
-    let mut near = [0u32; 192];
-    let n = list_near(array, pages, &s[..ns], &mut near);
-    let listed = &near[..n];
-    let u = z.unavailable;
-    let nu = z.nu as usize;
-    let l = leave.list;
-    let nl = leave.n;
-    let kept = judge(blocks::none(), array, pages, ids, listed, &u[..nu]);
-    judge(kept, array, pages, ids, listed, &l[..nl])
+    let mut near = Ids::none();
+    list_near(array, pages, stay, &mut near);
+    let all = blocks::unavailable(z).joined(leave);
+    judge(array, pages, ids, near.as_slice(), all.as_slice())
 }
 
 /// The zones that a checkpoint leaves.
@@ -283,24 +237,14 @@ pub fn slide(g: Geometry, array: &[u8], places: [Place; State::PLACES], z: Zones
     requires { Ready g array.now z }
     ensures { result ≡ slide g array.now places z }
 {
-    let pages = g.pages as usize;
-    let ids = places::ids_of(places);
-    let a = z.available;
-    let na = z.na as usize;
-    let available = &a[..na];
-    let stay = parted(array, pages, available, false);
-    let leave = parted(array, pages, available, true);
-    let kept = judged(array, pages, ids, z, stay, leave);
-    let free = blocks::free(z);
-    let t = refill::refill(
-        g,
-        Taken {
-            available: stay,
-            free,
-            pointer: z.pointer,
-        },
-    );
-    let ta = t.available;
-    let tf = t.free;
-    blocks::zones_of(ta, kept, tf, t.pointer)
+    let pages = usize::from(g.pages);
+    let ids = places::ids_of(&places);
+    let (stay, leave) = parted(array, pages, &z.available[..usize::from(z.na)]);
+    let kept = judged(array, pages, ids, z, stay.as_slice(), leave.as_slice());
+    let left = Taken {
+        available: stay,
+        free: blocks::free(z),
+        pointer: z.pointer,
+    };
+    left.refill(g).zones(kept)
 }

@@ -14,16 +14,16 @@ returns-then-page-ne-PAGE c = rw (ne_eqb _ _ c.if-page-ne-PAGE.true)
 
 pub returns-in-Erased : goal.returns-in-Erased
 unfolding class_called
-returns-in-Erased c = rw (eq-eqb _ _ c.if-page-ne-PAGE.false, ← c.classify-c.ensures, c.in-Erased.is)
+returns-in-Erased c = rw (eq-eqb _ _ c.if-page-ne-PAGE.false, ← c.classify.ensures, c.in-Erased.is)
 
 pub returns-in-Whole : goal.returns-in-Whole
 unfolding class_called
-returns-in-Whole c = rw (eq-eqb _ _ c.if-page-ne-PAGE.false, ← c.classify-c.ensures, c.in-Whole.is)
+returns-in-Whole c = rw (eq-eqb _ _ c.if-page-ne-PAGE.false, ← c.classify.ensures, c.in-Whole.is)
 
 pub returns-in-Torn : goal.returns-in-Torn
 unfolding class_called
 returns-in-Torn c =
     let d = c.in-Torn.d in
     let f : SFits w32 d = search rules in
-    rw (eq-eqb _ _ c.if-page-ne-PAGE.false, ← c.classify-c.ensures, c.in-Torn.is)
+    rw (eq-eqb _ _ c.if-page-ne-PAGE.false, ← c.classify.ensures, c.in-Torn.is)
     (ap (λ z. record { class = 2; difference = z }) (to_z-of_z {w = w32} {z = d} f))

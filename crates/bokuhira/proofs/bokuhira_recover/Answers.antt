@@ -14,4 +14,4 @@ finish-requires c = long _ c.sized.result c.sized.ensures c.if-not-sized.false
 pub returns : goal.returns
 returns c =
     let g = c.args in
-    recover_met (record { blocks = g.blocks; pages = g.pages; logical = g.logical; planes = g.planes }) g.array.now g.map.now g.hold.now g.state.now _ _ _ _ _ _ _ _ (long _ c.sized.result c.sized.ensures c.if-not-sized.false) c.fresh-s.ensures c.recover-r.ensures c.finish.ensures
+    recover_met (record { blocks = g.blocks; pages = g.pages; logical = g.logical; planes = g.planes }) g.array.now g.map.now g.hold.now g.state.now _ _ _ _ _ _ _ _ (long _ c.sized.result c.sized.ensures c.if-not-sized.false) c.fresh.ensures c.recover-r.ensures c.finish.ensures

@@ -2,5 +2,5 @@
 use Rattle.bokuhira.proofs.Calls.{coded_long}
 use Rattle.bokuhira.proofs.device.Goals as goal
 
-pub load-s-requires : goal.load-s-requires
-load-s-requires c = coded_long _ c.requires
+pub load-requires : goal.load-requires
+load-requires c = coded_long _ c.requires

@@ -10,4 +10,4 @@ pub returns-then-encodes : goal.returns-then-encodes
 returns-then-encodes c = start_coded _ _ _ _ c.encodes.ensures c.if-encodes.true c.device.ensures
 
 pub returns : goal.returns
-returns c = start_fresh _ _ _ _ c.encodes.ensures c.if-encodes.false c.fresh-s.ensures
+returns c = start_fresh _ _ _ _ c.encodes.ensures c.if-encodes.false c.fresh.ensures

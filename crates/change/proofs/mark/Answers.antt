@@ -21,23 +21,42 @@ write_held-requires c =
     let m = count_most a.s.geometry _ (place_at_law a.s.geometry a.s.places a.i f.places) in
     (rw c.next_page-k.ensures h, (f.hold, (c.requires.1.0, m)))
 
-pub overflow_cast-ppns : goal.overflow_cast-ppns
-overflow_cast-ppns c =
+pub overflow_cast-n : goal.overflow_cast-n
+overflow_cast-n c =
+    let a = c.args in
+    let f = frame_in a.s a.array.now a.map.now a.hold.now c.requires.0.frame in
+    let m = count_most a.s.geometry _ (place_at_law a.s.geometry a.s.places a.i f.places) in
+    omega arith
+
+pub overflow_cast-p : goal.overflow_cast-p
+overflow_cast-p c =
+    let a = c.args in
+    let f = frame_in a.s a.array.now a.map.now a.hold.now c.requires.0.frame in
+    let m = count_most a.s.geometry _ (place_at_law a.s.geometry a.s.places a.i f.places) in
+    omega arith
+
+pub overflow_cast-p-2 : goal.overflow_cast-p-2
+overflow_cast-p-2 c =
     let a = c.args in
     let f = frame_in a.s a.array.now a.map.now a.hold.now c.requires.0.frame in
     let small = next_small a.s a.array.now f.ready in
     let e = c.next_page-k.ensures in
     omega arith
 
-pub overflow_sub-ppns : goal.overflow_sub-ppns
-overflow_sub-ppns c = c.requires.1.1
-
-pub bounds-ppns-n : goal.bounds-ppns-n
-bounds-ppns-n c =
+pub offset_bounds-p-n : goal.offset_bounds-p-n
+offset_bounds-p-n c =
     let a = c.args in
     let f = frame_in a.s a.array.now a.map.now a.hold.now c.requires.0.frame in
     let m = count_most a.s.geometry _ (place_at_law a.s.geometry a.s.places a.i f.places) in
-    let c = c.requires.1.1 in
+    let n = c.requires.1.1 in
+    omega arith
+
+pub bounds-p-n : goal.bounds-p-n
+bounds-p-n c =
+    let a = c.args in
+    let f = frame_in a.s a.array.now a.map.now a.hold.now c.requires.0.frame in
+    let m = count_most a.s.geometry _ (place_at_law a.s.geometry a.s.places a.i f.places) in
+    let n = c.requires.1.1 in
     omega arith
 
 pub enter-requires : goal.enter-requires

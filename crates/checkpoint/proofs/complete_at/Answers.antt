@@ -5,20 +5,20 @@ use Prim.Native.Nat.{ℕ, ◌+◌}
 use Rattle.model.specs.Checkpoint.{zone_spare, page_is, maps_at, number_at, complete_at}
 use Rattle.checkpoint.proofs.complete_at.Goals as goal
 
-pub returns-then-not-maps_at : goal.returns-then-not-maps_at
+pub returns-then-maps_at : goal.returns-then-maps_at
 unfolding complete_at
-returns-then-not-maps_at c =
-    let a = c.args in
-    let xs = a.array.now in
-    let t = ap (λ (v : ℕ). maps_at xs a.k 0 v a.m) (sym c.number_at-c.ensures) ∙ sym c.maps_at.ensures ∙ c.if-not-maps_at.true in
-    sym (ap (λ (b : Bool). b && page_is xs (a.k + a.m) (zone_spare a.m (number_at xs a.k))) t)
-
-pub returns : goal.returns
-unfolding complete_at
-returns c =
+returns-then-maps_at c =
     let a = c.args in
     let xs = a.array.now in
     let n = c.number_at-c.ensures in
-    let t = ap (λ (v : ℕ). maps_at xs a.k 0 v a.m) (sym n) ∙ sym c.maps_at.ensures ∙ c.if-not-maps_at.false in
-    c.page_is.ensures ∙ ap (page_is xs (a.k + a.m)) (c.zone_spare-s.ensures ∙ ap (zone_spare a.m) n)
+    let t = ap (λ (v : ℕ). maps_at xs a.k 0 v a.m) (sym n) ∙ sym c.maps_at.ensures ∙ c.if-maps_at.true in
+    c.page_is.ensures ∙ ap (page_is xs (a.k + a.m)) (c.zone_spare.ensures ∙ ap (zone_spare a.m) n)
     ∙ sym (ap (λ (b : Bool). b && page_is xs (a.k + a.m) (zone_spare a.m (number_at xs a.k))) t)
+
+pub returns-else-maps_at : goal.returns-else-maps_at
+unfolding complete_at
+returns-else-maps_at c =
+    let a = c.args in
+    let xs = a.array.now in
+    let t = ap (λ (v : ℕ). maps_at xs a.k 0 v a.m) (sym c.number_at-c.ensures) ∙ sym c.maps_at.ensures ∙ c.if-maps_at.false in
+    c.if-maps_at.false ∙ sym (ap (λ (b : Bool). b && page_is xs (a.k + a.m) (zone_spare a.m (number_at xs a.k))) t)

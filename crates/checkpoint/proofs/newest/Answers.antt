@@ -10,7 +10,7 @@ use Rattle.checkpoint.specs.Found.{FoundIn}
 use Rattle.checkpoint.proofs.newest.Goals as goal
 
 pub newest_from-first-requires : goal.newest_from-first-requires
-newest_from-first-requires c = (omega arith, (omega arith, (record { here = omega arith; before = search rules }, c.table-table.ensures)))
+newest_from-first-requires c = (omega arith, (omega arith, record { here = omega arith; before = search rules }))
 
 pub newest_from-requires : goal.newest_from-requires
 newest_from-requires c =
@@ -18,7 +18,7 @@ newest_from-requires c =
     let e = c.newest_from-first.ensures in
     let xs = a.array.now in
     let f : FoundIn (length xs) (newest_from xs a.m 0 (a.pages - a.m) nothing) = in_search xs (length xs) a.m 0 (a.pages - a.m) nothing (omega arith) (omega arith) in
-    (omega arith, (omega arith, (record { here = omega arith; before = in_same _ _ _ e f }, c.table-table.ensures)))
+    (omega arith, (omega arith, record { here = omega arith; before = in_same _ _ _ e f }))
 
 pub returns : goal.returns
 unfolding newest

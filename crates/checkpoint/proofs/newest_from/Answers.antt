@@ -12,33 +12,24 @@ use Rattle.checkpoint.proofs.newest_from.Goals as goal
 pub loop-i-init : goal.loop-i-init
 loop-i-init c =
     let a = c.args in
-    (omega arith, (c.requires.1.1.0.before, found_start a.array.now a.m a.k a.n (found_of a.best)))
-
-pub overflow_add-k : goal.overflow_add-k
-overflow_add-k c = omega arith
+    record { inside = c.requires.1.1.before; newest = found_start a.array.now a.m a.k a.n (found_of a.best) }
 
 pub better-found-requires : goal.better-found-requires
-better-found-requires c = (omega arith, (omega arith, (record { here = omega arith; before = c.loop-i.invariant.1.0 }, c.requires.1.1.1)))
-
-pub overflow_add-i : goal.overflow_add-i
-overflow_add-i c = omega arith
-
-pub loop-i-smaller : goal.loop-i-smaller
-loop-i-smaller c = omega arith
+better-found-requires c = (omega arith, (omega arith, record { here = omega arith; before = c.loop-i.invariant.inside }))
 
 pub loop-i-preserved : goal.loop-i-preserved
 loop-i-preserved c =
     let a = c.args in
+    let xs = a.array.now in
+    let k = a.k + c.loop-i.i in
     let best = found_of c.loop-i.found in
-    let next = found_of c.better-found.result in (
-      omega arith,
-      (
-        in_better (length a.array.now) (a.k + c.loop-i.i) (complete_at a.array.now a.m (a.k + c.loop-i.i) && newer a.array.now (a.k + c.loop-i.i) best) next best c.better-found.ensures (omega arith) c.loop-i.invariant.1.0,
-        found_more a.array.now a.m a.k a.n c.loop-i.i best next (omega arith) c.loop-i.invariant.1.1 c.better-found.ensures,
-      ),
-    )
+    let next = found_of c.better-found.result in
+    record {
+      inside = in_better (length xs) k (complete_at xs a.m k && newer xs k best) next best c.better-found.ensures (omega arith) c.loop-i.invariant.inside;
+      newest = found_more xs a.m a.k a.n c.loop-i.i best next (omega arith) c.loop-i.invariant.newest c.better-found.ensures;
+    }
 
 pub returns : goal.returns
 returns c =
     let a = c.args in
-    sym (found_end a.array.now a.m a.k a.n c.loop-i.i (found_of c.loop-i.found) (omega arith) c.loop-i.invariant.1.1)
+    sym (found_end a.array.now a.m a.k a.n c.loop-i.i (found_of c.loop-i.found) (omega arith) c.loop-i.invariant.newest)

@@ -7,19 +7,19 @@ use Rattle.model.specs.declared.Spare.{Spare}
 use Rattle.arrays.specs.Tests.{and_right_false}
 use Rattle.checkpoint.proofs.page_is.Goals as goal
 
-pub returns-then-not-same_spare : goal.returns-then-not-same_spare
-unfolding page_is
-returns-then-not-same_spare c =
-    let a = c.args in
-    let e = c.read_spare.ensures ∙ ap spare_of c.page_of-page.ensures.0 in
-    let t = ap (λ (u : Spare). same_spare u a.s) (sym e) ∙ sym c.same_spare.ensures ∙ c.if-not-same_spare.true in
-    sym (and_right_false (whole_at a.array.now a.k) _ t)
-
-pub returns : goal.returns
-unfolding page_is whole_at
-returns c =
+pub returns-then-eq : goal.returns-then-eq
+unfolding page_is whole_at same_spare
+returns-then-eq c =
     let a = c.args in
     let w = whole_at a.array.now a.k in
     let e = c.read_spare.ensures ∙ ap spare_of c.page_of-page.ensures.0 in
-    let t = ap (λ (u : Spare). same_spare u a.s) (sym e) ∙ sym c.same_spare.ensures ∙ c.if-not-same_spare.false in
+    let t = ap (λ (u : Spare). same_spare u a.s) (sym e) ∙ sym c.eq.ensures ∙ c.if-eq.true in
     c.is_whole.ensures ∙ ap (λ q. is_whole (class_of q)) c.page_of-page.ensures.0 ∙ sym (ap (λ (b : Bool). w && b) t ∙ and-true w)
+
+pub returns-else-eq : goal.returns-else-eq
+unfolding page_is same_spare
+returns-else-eq c =
+    let a = c.args in
+    let e = c.read_spare.ensures ∙ ap spare_of c.page_of-page.ensures.0 in
+    let t = ap (λ (u : Spare). same_spare u a.s) (sym e) ∙ sym c.eq.ensures ∙ c.if-eq.false in
+    c.if-eq.false ∙ sym (and_right_false (whole_at a.array.now a.k) _ t)

@@ -1,18 +1,14 @@
--- `encoding::drops_coded` meets its contract. The loop's invariant: the test of the first i bytes. Assumes nothing.
-use mathlib.Core.Path.{◌≡◌, refl}
-use native.Mathlib.Omega.{arith}
-use borrow.Author.Rules.{rules}
-use Rattle.model.specs.Lists.{all, part}
-use Rattle.encoding.specs.Encoding.{drops_coded}
-use Rattle.encoding.proofs.Coded.{drops_more}
+-- `encoding::drops_coded` meets its contract: the fold tests every drop (`fold_all`). Assumes nothing.
+use Rattle.std.proofs.Common.{rules, tests, ◌∙◌, Bool, true, ltb, ◌&&◌, ℕ}
+use Rattle.std.proofs.lemmas.Iterator.{YieldsList-from_slice}
+use Rattle.std.proofs.lemmas.Iterator.Consumers.{fold_from_yields_List}
+use native.Mathlib.Nat.{add-sub_cancel_left}
+use Rattle.model.specs.Lists.{part}
+use Rattle.encoding.proofs.Coded.{fold_all}
 use Rattle.encoding.proofs.drops_coded.Goals as goal
 
-pub loop-i-init : goal.loop-i-init
-unfolding part drops_coded all
-loop-i-init c = (search rules, (search rules, refl))
-
-pub loop-i-preserved : goal.loop-i-preserved
-loop-i-preserved c = (search rules, (search rules, drops_more _ _ _ _ (omega arith) c.loop-i.invariant.1.1))
-
 pub returns : goal.returns
-returns c = let e : c.loop-i.i ≡ 64 = omega arith in rw (← e) c.loop-i.invariant.1.1
+unfolding part
+returns c =
+    fold_from_yields_List _ (λ (a : Bool) (x : ℕ). a && ltb x 2) true _ c.fold.ensures.ran (YieldsList-from_slice (part c.args.at 64 c.args.from.now) (rw add-sub_cancel_left at c.iter.ensures.rest)) (λ a x b q k. search (rules, tests))
+    ∙ fold_all _

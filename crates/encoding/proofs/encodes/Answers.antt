@@ -1,20 +1,37 @@
 -- `encoding::encodes` meets its contract: each return by the tests on its path. Assumes nothing.
-use borrow.Author.Tests.{le-leb, lt-leb, eq-eqb, ne_eqb}
-use Rattle.encoding.specs.Encoding.{encodes}
+use Rattle.std.proofs.Common.{sym, ap, ◌∙◌}
+use Rattle.std.proofs.lemmas.Bool.{false≢true}
+use borrow.Author.Tests.{ne_eqb}
+use Rattle.encoding.specs.Encoding.{work_coded}
+use Rattle.encoding.proofs.Coded.{not_long, no_work, no_plane, by_places}
 use Rattle.encoding.proofs.encodes.Goals as goal
+use Rattle.encoding.proofs.encodes.Goals.{then-from-eq-STATE, else-from-eq-STATE, then-work_coded, else-work_coded}
 
-pub returns-then-from-ne2881 : goal.returns-then-from-ne2881
-unfolding encodes
-returns-then-from-ne2881 c = rw (ne_eqb _ _ c.if-from-ne2881.true)
+pub returns-then-from-le2 : goal.returns-then-from-le2
+returns-then-from-le2 c =
+    elim c.if-work_coded.branch [
+      | then-work_coded w ↦ elim c.if-from-eq-STATE.branch [
+        | then-from-eq-STATE v ↦
+            let work = sym (v.work_coded.ensures ∙ ap (work_coded _) v.word16.ensures) ∙ sym v.value-is ∙ w.if-work_coded.true in
+            c.places_coded.ensures ∙ sym (by_places _ v.if-from-eq-STATE.true work (sym w.value-is ∙ c.if-from-le2.true))
+        | else-from-eq-STATE v ↦ absurd (false≢true (sym (v.value-is ∙ ne_eqb _ _ v.if-from-eq-STATE.false) ∙ w.if-work_coded.true))
+      ]
+      | else-work_coded w ↦ absurd (false≢true (sym w.if-work_coded.false ∙ sym w.value-is ∙ c.if-from-le2.true))
+    ]
 
-pub returns-then-not-work_coded : goal.returns-then-not-work_coded
-unfolding encodes
-returns-then-not-work_coded c = rw (eq-eqb _ _ c.if-from-ne2881.false, ← c.word16.ensures, ← c.work_coded.ensures, c.if-not-work_coded.true)
-
-pub returns-then-from-gt2 : goal.returns-then-from-gt2
-unfolding encodes
-returns-then-from-gt2 c = rw (eq-eqb _ _ c.if-from-ne2881.false, ← c.word16.ensures, ← c.work_coded.ensures, c.if-not-work_coded.false, lt-leb _ _ c.if-from-gt2.true)
-
-pub returns : goal.returns
-unfolding encodes
-returns c = rw (eq-eqb _ _ c.if-from-ne2881.false, ← c.word16.ensures, ← c.work_coded.ensures, c.if-not-work_coded.false, le-leb _ _ c.if-from-gt2.false) c.places_coded.ensures
+pub returns-else-from-le2 : goal.returns-else-from-le2
+returns-else-from-le2 c =
+    elim c.if-work_coded.branch [
+      | then-work_coded w ↦ elim c.if-from-eq-STATE.branch [
+        | then-from-eq-STATE v ↦
+            let work = sym (v.work_coded.ensures ∙ ap (work_coded _) v.word16.ensures) ∙ sym v.value-is ∙ w.if-work_coded.true in
+            c.if-from-le2.false ∙ sym (no_plane _ v.if-from-eq-STATE.true work (sym w.value-is ∙ c.if-from-le2.false))
+        | else-from-eq-STATE v ↦ absurd (false≢true (sym (v.value-is ∙ ne_eqb _ _ v.if-from-eq-STATE.false) ∙ w.if-work_coded.true))
+      ]
+      | else-work_coded w ↦ elim c.if-from-eq-STATE.branch [
+        | then-from-eq-STATE v ↦
+            let work = sym (v.work_coded.ensures ∙ ap (work_coded _) v.word16.ensures) ∙ sym v.value-is ∙ w.if-work_coded.false in
+            c.if-from-le2.false ∙ sym (no_work _ v.if-from-eq-STATE.true work)
+        | else-from-eq-STATE v ↦ c.if-from-le2.false ∙ sym (not_long _ v.if-from-eq-STATE.false)
+      ]
+    ]

@@ -1,7 +1,5 @@
 -- `encoding::load_drops` meets its contract. The loop's invariant: the first i drops stand in the list. Assumes nothing.
-use mathlib.Core.Path.{refl}
-use native.Mathlib.Omega.{arith}
-use borrow.Author.Rules.{rules}
+use Rattle.std.proofs.Common.{rules, refl, arith}
 use Rattle.model.specs.Lists.{part}
 use Rattle.encoding.specs.Encoding.{drops_from}
 use Rattle.page.proofs.Taken.{filling_none, filling_more, filling_all}

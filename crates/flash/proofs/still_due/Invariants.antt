@@ -5,8 +5,5 @@ use Rattle.model.specs.Page.{used_from}
 use Rattle.model.specs.Zones.{used_in}
 use Rattle.flash.proofs.still_due.Given as goal
 
-abbrev pub invariant-loop-left : goal.invariant-loop-left
-invariant-loop-left l = (l.n ≤ l.pages) × ((l.left + (l.pages - l.n) ≡ l.due) × (used_in l.array l.pages l.b ≡ used_from l.array (l.b * l.pages) l.n))
-
-abbrev pub decreases-loop-left : goal.decreases-loop-left
-decreases-loop-left l = l.left
+abbrev pub invariant-loop-n : goal.invariant-loop-n
+invariant-loop-n l = (l.n ≤ l.pages) × ((l.left + (l.pages - l.n) ≡ l.due) × (used_in l.array l.pages l.b ≡ used_from l.array (l.b * l.pages) l.n))

@@ -1,56 +1,49 @@
--- `opening::begin_refusal` meets its contract: the gate first (`gate_first`, `gate_passed`), then a check after the other. Assumes nothing.
--- `at` is where the gate answered, `one` to `three` are where the facts of the checks behind it stand.
+-- `opening::begin_refusal` meets its contract: the gate first (`gate_first`, `gate_rest`), then a check after the other. Assumes nothing.
 use mathlib.Core.Bool.{false}
-use borrow.Author.Tests.{le-leb, lt-leb}
+use Rattle.std.proofs.lemmas.Result.{err_from_is_err_and}
 use Rattle.model.specs.World.{World}
 use Rattle.model.specs.Order.{first_number}
 use Rattle.model.specs.Transactions.{live_id}
 use Rattle.arrays.specs.Frame.{frame_in}
-use Rattle.frame.proofs.Gates.{gate_first, gate_passed}
+use Rattle.frame.proofs.Gates.{gate_first, gate_frame, gate_rest}
+use Rattle.frame.proofs.Found.{found_refuses, found_place}
 use Rattle.frame.proofs.Outcomes.{frame_sized}
 use Rattle.opening.proofs.begin_refusal.Goals as goal
 
-pub returns-then-n-ne0 : goal.returns-then-n-ne0
-returns-then-n-ne0 c =
+pub returns-in_err-gate-clause-refusal : goal.returns-in_err-gate-clause-refusal
+returns-in_err-gate-clause-refusal c =
     let a = c.args in
     let w : World = record { array = a.array.now; map = a.map.now; hold = a.hold.now; state = a.s } in
-    gate_first w false _ _ c.gate-n.ensures c.if-n-ne0.true
+    let p = err_from_is_err_and c.from_residual.result c.from_residual.ensures.1 in
+    rw (p.1, p.2) (gate_first false w _ _ c.in_err-gate.ensures)
 
-pub returns-then-bad_id : goal.returns-then-bad_id
+pub returns-then-bad_id-clause-refusal : goal.returns-then-bad_id-clause-refusal
 unfolding first_number
-returns-then-bad_id c =
+returns-then-bad_id-clause-refusal c =
     let a = c.args in
     let w : World = record { array = a.array.now; map = a.map.now; hold = a.hold.now; state = a.s } in
-    let p = gate_passed w false _ c.gate-n.ensures c.if-n-ne0.false in
-    simp (p.0, p.1, ← c.bad_id.ensures, c.if-bad_id.true)
+    rw (gate_rest false w c.in_ok-gate.ensures, ← c.bad_id.ensures, c.if-bad_id.true)
 
 pub is_live-requires : goal.is_live-requires
 is_live-requires c =
     let a = c.args in
     let w : World = record { array = a.array.now; map = a.map.now; hold = a.hold.now; state = a.s } in
-    let f = (gate_passed w false _ c.gate-n.ensures c.if-n-ne0.false).0 in
+    let f = gate_frame false w c.in_ok-gate.ensures in
     record { shape = (frame_sized w f).shape; bytes = (frame_sized w f).bytes; lists = (frame_in w f).zones }
 
-pub returns-then-is_live : goal.returns-then-is_live
+pub returns-then-is_live-clause-refusal : goal.returns-then-is_live-clause-refusal
 unfolding first_number live_id
-returns-then-is_live c =
+returns-then-is_live-clause-refusal c =
     let a = c.args in
     let w : World = record { array = a.array.now; map = a.map.now; hold = a.hold.now; state = a.s } in
-    let p = gate_passed w false _ c.gate-n.ensures c.if-n-ne0.false in
-    simp (p.0, p.1, ← c.bad_id.ensures, c.if-bad_id.false, ← c.is_live.ensures, c.if-is_live.true)
+    rw (gate_rest false w c.in_ok-gate.ensures, ← c.bad_id.ensures, c.if-bad_id.false, ← c.is_live.ensures, c.if-is_live.true)
 
-pub returns-then-find_id-ge-PLACES : goal.returns-then-find_id-ge-PLACES
+pub returns-clause-refusal : goal.returns-clause-refusal
 unfolding first_number live_id
-returns-then-find_id-ge-PLACES c =
+returns-clause-refusal c =
     let a = c.args in
     let w : World = record { array = a.array.now; map = a.map.now; hold = a.hold.now; state = a.s } in
-    let p = gate_passed w false _ c.gate-n.ensures c.if-n-ne0.false in
-    simp (p.0, p.1, ← c.bad_id.ensures, c.if-bad_id.false, ← c.is_live.ensures, c.if-is_live.false, ← c.find_id.ensures, le-leb _ _ c.if-find_id-ge-PLACES.true)
+    rw (gate_rest false w c.in_ok-gate.ensures, ← c.bad_id.ensures, c.if-bad_id.false, ← c.is_live.ensures, c.if-is_live.false, c.ok_or.ensures.value, c.find_id.ensures) (found_refuses _ _)
 
-pub returns : goal.returns
-unfolding first_number live_id
-returns c =
-    let a = c.args in
-    let w : World = record { array = a.array.now; map = a.map.now; hold = a.hold.now; state = a.s } in
-    let p = gate_passed w false _ c.gate-n.ensures c.if-n-ne0.false in
-    simp (p.0, p.1, ← c.bad_id.ensures, c.if-bad_id.false, ← c.is_live.ensures, c.if-is_live.false, ← c.find_id.ensures, lt-leb _ _ c.if-find_id-ge-PLACES.false)
+pub returns-clause-place : goal.returns-clause-place
+returns-clause-place c = rw (c.ok_or.ensures.value, c.find_id.ensures) (found_place _ _)

@@ -1,15 +1,14 @@
--- `outcome::mapped` meets its contract. The loop's invariant: the count with that of the rest is the whole; the measure is what is left of the map. Assumes nothing.
-use native.Mathlib.Omega.{arith}
-use Rattle.outcome.proofs.Counting.{mapped_more, mapped_same, mapped_all}
+-- `outcome::mapped` meets its contract: what the chain counts is what the definition counts. Assumes nothing.
+use mathlib.Core.Path.{◌≡◌, refl, ◌∙◌}
+use Rattle.std.proofs.Common.{ℕ, rules, not, nat_eq}
+use Rattle.std.proofs.iter.runs.Made.{chains}
+use Rattle.std.specs.Prelude.{count_by}
+use Rattle.arrays.specs.Chains.{count_like}
+use Rattle.outcome.specs.Text.{mapped_in}
 use Rattle.outcome.proofs.mapped.Goals as goal
-use Rattle.outcome.proofs.mapped.Goals.{then-map-i, else-map-i}
-
-pub loop-i-preserved : goal.loop-i-preserved
-loop-i-preserved c =
-    elim c.if-map-i.branch [
-      | then-map-i w ↦ (omega arith, (omega arith, rw w.n-is (mapped_more _ c.loop-i.n c.loop-i.i _ c.loop-i-test.true w.if-map-i.true c.loop-i.invariant.1.1)))
-      | else-map-i w ↦ (omega arith, (omega arith, rw w.n-is (mapped_same _ c.loop-i.n c.loop-i.i _ c.loop-i-test.true w.if-map-i.false c.loop-i.invariant.1.1)))
-    ]
 
 pub returns : goal.returns
-returns c = mapped_all _ _ _ c.loop-i-test.false c.loop-i.invariant.1.1
+unfolding mapped_in
+returns c =
+    let e : c.count.result ≡ count_by (λ (x : ℕ). not (nat_eq x 65535)) c.args.map.now = search (rules, chains) in
+    e ∙ count_like _ _ (λ x. refl) c.args.map.now

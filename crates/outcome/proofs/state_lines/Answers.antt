@@ -6,4 +6,4 @@ use Rattle.outcome.proofs.state_lines.Goals as goal
 
 pub returns : goal.returns
 unfolding state_text
-returns c = put_within (puts (puts (puts c.number_line-a.ensures c.number_line-b.ensures) c.zone_lines-c.ensures) c.count_lines.ensures) (omega arith)
+returns c = rw (← c.from.ensures, ← c.from-2.ensures) (put_within (puts (puts (puts c.number_line-a.ensures c.number_line-b.ensures) c.zone_lines-c.ensures) c.count_lines.ensures) (omega arith))

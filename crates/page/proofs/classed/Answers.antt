@@ -16,9 +16,9 @@ returns-then-counted-stored c =
 pub overflow_sub-result : goal.overflow_sub-result
 overflow_sub-result c = difference_fits c.word16-stored.result c.args.counted (search rules) (search rules)
 
-pub returns : goal.returns
+pub returns-else-counted-stored : goal.returns-else-counted-stored
 unfolding class_of torn_by
-returns c =
+returns-else-counted-stored c =
     let p = c.requires in
     let n = c.word16-stored in
     rw (p.1.0, ne_eqb _ _ (λ e. c.if-counted-stored.false (p.1.1 ∙ e ∙ sym n.ensures)), ← n.ensures, ← p.1.1)

@@ -15,26 +15,11 @@ same : (b : Bool) → b ≡ cond b true false
 same true = refl
 same false = refl
 
-pub word64-requires : goal.word64-requires
-word64-requires c = omega arith
-
 pub returns-then-word64-ne18446744073709551615 : goal.returns-then-word64-ne18446744073709551615
 returns-then-word64-ne18446744073709551615 c = sym (not64 c.args.page.now 0 (omega arith) (λ e. c.if-word64-ne18446744073709551615.true (c.word64.ensures ∙ e)))
 
 pub loop-w-init : goal.loop-w-init
 loop-w-init c = (omega arith, (omega arith, refl))
-
-pub overflow_mul-w : goal.overflow_mul-w
-overflow_mul-w c = omega arith
-
-pub word64-common-requires : goal.word64-common-requires
-word64-common-requires c = omega arith
-
-pub overflow_add-w : goal.overflow_add-w
-overflow_add-w c = omega arith
-
-pub loop-w-smaller : goal.loop-w-smaller
-loop-w-smaller c = omega arith
 
 pub loop-w-preserved : goal.loop-w-preserved
 loop-w-preserved c =

@@ -1,6 +1,15 @@
--- `page::put64` meets its contract: two stores of 4 bytes, one after the other. Assumes nothing.
-use native.Mathlib.Numerals.{towards_suc}
+-- `page::put64` meets its contract: its eight bytes, low byte first, stand in the page. Assumes nothing.
+use mathlib.Core.Path.{ap, ◌∙◌}
+use Prim.Native.Nat.{◌+◌, ◌-◌}
+use native.Mathlib.Omega.{arith}
+use borrow.Rule.Slice.PartMut.{put_mid}
+use Rattle.page.specs.Words.{bytes64}
+use Rattle.page.proofs.Storing.{stored, bytes_8}
 use Rattle.page.proofs.put64.Goals as goal
 
 pub returns : goal.returns
-returns c = rw (c.put32-2.ensures, c.put32.ensures) (simp towards_suc)
+returns c =
+    let a = c.args in
+    let n = a.at + 8 - a.at in
+    let e = c.copy_from_slice.ensures.after ∙ c.to_le_bytes.ensures ∙ bytes_8 a.x (omega arith) in
+    ap (put_mid a.at n a.page.now) e ∙ stored (bytes64 a.x) a.page.now a.at n (omega arith) (omega arith)

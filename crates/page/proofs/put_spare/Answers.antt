@@ -6,8 +6,4 @@ use Rattle.page.proofs.put_spare.Goals as goal
 pub returns : goal.returns
 returns c =
     let a = c.args in
-    let kind = c.struct_known-4-1.given.1.1.1.1.0 in
-    three_words a.s a.page.now _ _ _ (omega arith) (omega arith) kind.fits
-    c.put64.ensures
-    c.put32.ensures
-    c.put16.ensures
+    three_words a.s a.page.now _ _ _ (omega arith) (omega arith) (omega arith) c.put64.ensures c.put32.ensures c.put16.ensures

@@ -1,6 +1,7 @@
--- `places::among` meets its contract: one is found below the end where any is, by `find_any`. Assumes nothing.
-use Rattle.places.proofs.Ids.{find_any}
+-- `places::among` meets its contract: what the library's `contains` says, in the words of `model` (`any_like`). Assumes nothing.
+use mathlib.Core.Path.{refl, ◌∙◌}
+use Rattle.arrays.specs.Chains.{any_like}
 use Rattle.places.proofs.among.Goals as goal
 
 pub returns : goal.returns
-returns c = simp (c.index_of.ensures, ← find_any)
+returns c = c.contains.ensures.value ∙ any_like _ _ (λ x. refl) c.args.ids.now

@@ -1,20 +1,17 @@
--- `places::ids_of` meets its contract. The loop's invariant: the first `i` identifiers are copied. Assumes nothing.
-use mathlib.Core.Path.{◌≡◌, refl}
-use native.Mathlib.Omega.{arith}
-use borrow.Author.Rules.{rules}
-use Rattle.places.proofs.Ids.{copied_more, copied_all}
+-- `places::ids_of` meets its contract: each number is the identifier of its place (`made_at`). Assumes nothing.
+use Rattle.std.proofs.Common.{◌≡◌, ◌<◌, rules, sym, ◌∙◌, get_or, length, arith}
+use Rattle.std.proofs.lemmas.Grind.{same_number_lists}
+use Rattle.model.specs.Frame.{no_place}
+use Rattle.places.proofs.Ids.{length_ids, ids_at, made_at}
 use Rattle.places.proofs.ids_of.Goals as goal
-
-pub loop-i-init : goal.loop-i-init
-loop-i-init c = (search rules, (search rules, (search rules, refl)))
-
-pub loop-i-preserved : goal.loop-i-preserved
-loop-i-preserved c =
-    let l = c.loop-i in
-    (search rules, (search rules, (search rules, copied_more _ _ _ _ _ (search rules) (search rules) l.invariant.1.1.1)))
 
 pub returns : goal.returns
 returns c =
-    let l = c.loop-i in
-    let e : l.i ≡ 8 = omega arith in
-    copied_all c.args.places _ _ l.i (search rules) (search rules) l.invariant.1.1.1
+    let ps = c.args.places.now in
+    let e : length ps ≡ 8 = search rules in
+    let r = c.from_fn.ensures.items in
+    let all = r.long in
+    same_number_lists _ _ (r.long ∙ sym (length_ids ps ∙ e)) (λ k h.
+    let low : k < 8 = omega (arith, h, all) in
+    let in_ps : k < length ps = omega (arith, low, e) in
+    made_at _ (λ i. (get_or ps i no_place).id) _ _ (λ x y q t. search rules) 0 8 k r.each (omega arith) (omega (arith, low)) ∙ sym (ids_at ps k no_place in_ps))

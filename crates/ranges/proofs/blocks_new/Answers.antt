@@ -1,82 +1,78 @@
--- `ranges::blocks_new` meets its contract. The loop's invariant: the blocks before the `i`-th pass, and the flags hold them. Assumes nothing.
+-- `ranges::blocks_new` meets its contract. The loop's invariant: the blocks before the next pass, and the flags hold them. Assumes nothing.
 use mathlib.Core.Path.{◌≡◌, refl, sym, ap, ◌∙◌}
 use mathlib.Core.Bool.{true, false}
 use mathlib.Core.List.{[]}
-use lib.ListN.{take, get_or, length-set}
 use native.Mathlib.Omega.{arith}
-use borrow.Author.Tests.{lt-ltb, le-ltb, le-leb, lt-leb}
+use lib.ListN.{take, get_or, length-set}
+use borrow.Author.Rules.{rules}
+use borrow.Author.Tests.{le-leb, lt-leb, lt-ltb, le-ltb}
 use Rattle.model.specs.Lists.{all_heads, elem}
 use Rattle.arrays.specs.Ranges.{geometry_in}
 use Rattle.blocks.proofs.Loops.{heads_pass, heads_fail, heads_end}
 use Rattle.ranges.proofs.Seen.{marks_none, marks_more, new_within, new_within_law}
-use borrow.Author.Rules.{rules}
+use Rattle.ranges.proofs.blocks_new.Goals.{then-b-lt-FRONT-via-then-b-lt-FRONT, then-b-lt-FRONT-via-else-b-lt-FRONT+then-b-hi, then-b-lt-FRONT-via-else-b-lt-FRONT+else-b-hi+then-seen-b}
 use Rattle.ranges.proofs.blocks_new.Goals as goal
 
-pub loop-i-init : goal.loop-i-init
-loop-i-init c =
-    let h = geometry_in c.args.g c.requires in
-    (omega arith, (h.blocks_most, (search rules, (marks_none 128, refl))))
+pub loop-b-init : goal.loop-b-init
+loop-b-init c = (search rules, (marks_none 128, refl))
 
-pub bounds-list-i : goal.bounds-list-i
-bounds-list-i c = omega arith
-
-pub overflow_cast-b : goal.overflow_cast-b
-overflow_cast-b c = omega (arith, c.type_inv.list c.loop-i.i)
+pub bounds-seen-b : goal.bounds-seen-b
+bounds-seen-b c =
+    let h = (geometry_in c.args.g c.requires).blocks_most in
+    let f = c.from-hi.ensures in
+    let k = c.if-b-hi.false in
+    omega arith
 
 pub returns-then-b-lt-FRONT : goal.returns-then-b-lt-FRONT
 unfolding new_within
 returns-then-b-lt-FRONT c =
     let m = c.args.list.now in
-    let n = c.args.g.blocks in
-    let i = c.loop-i.i in
-    let v = c.loop-i.invariant in
-    sym (ap (λ f. all_heads f [] m) (new_within_law c.args.g) ∙ heads_fail (new_within n) m i 0 (omega arith) v.1.1.1.1 (simp (lt-leb _ _ c.if-b-lt-FRONT.true)))
+    let n = c.from-hi.result in
+    let i = c.loop-b.b-index in
+    let v = c.loop-b.invariant in
+    let most = (geometry_in c.args.g c.requires).blocks_most in
+    let f = c.from-hi.ensures in
+    let e = ap (λ u. all_heads u [] m) (new_within_law c.args.g) ∙ ap (λ u. all_heads (new_within u) [] m) (sym c.from-hi.ensures) in
+    let fail = heads_fail (new_within n) m i 0 c.loop-b-test.true v.1.1 in
+    elim c.then-b-lt-FRONT.branch [
+      | then-b-lt-FRONT-via-then-b-lt-FRONT w ↦ let l = rw c.from-b.ensures at w.if-b-lt-FRONT.true in sym (e ∙ fail (simp (lt-leb _ _ l)))
+      | then-b-lt-FRONT-via-else-b-lt-FRONT+then-b-hi w ↦
+          let l = rw c.from-b.ensures at w.if-b-lt-FRONT.false in
+          let h = rw c.from-b.ensures at w.if-b-hi.true in
+          sym (e ∙ fail (simp (le-leb _ _ l, le-ltb _ _ h)))
+      | then-b-lt-FRONT-via-else-b-lt-FRONT+else-b-hi+then-seen-b w ↦
+          let l = rw c.from-b.ensures at w.if-b-lt-FRONT.false in
+          let h = rw c.from-b.ensures at w.if-b-hi.false in
+          let s : elem (get_or m i 0) (take i m) ≡ true = sym (v.1.0 (get_or m i 0) (omega arith)) ∙ (rw c.from-b.ensures at w.if-seen-b.true) in
+          sym (e ∙ fail (simp (le-leb _ _ l, lt-ltb _ _ h, s)))
+    ]
 
-pub returns-then-b-hi : goal.returns-then-b-hi
+pub bounds-seen-b-in-loop-b : goal.bounds-seen-b-in-loop-b
+bounds-seen-b-in-loop-b c =
+    let h = (geometry_in c.args.g c.requires).blocks_most in
+    let f = c.from-hi.ensures in
+    let k = c.if-b-hi.false in
+    omega arith
+
+pub loop-b-preserved : goal.loop-b-preserved
 unfolding new_within
-returns-then-b-hi c =
+loop-b-preserved c =
     let m = c.args.list.now in
-    let n = c.args.g.blocks in
-    let i = c.loop-i.i in
-    let v = c.loop-i.invariant in
-    sym (ap (λ f. all_heads f [] m) (new_within_law c.args.g) ∙ heads_fail (new_within n) m i 0 (omega arith) v.1.1.1.1 (simp (le-leb _ _ c.if-b-lt-FRONT.false, le-ltb _ _ c.if-b-hi.true)))
-
-pub bounds-seen-b : goal.bounds-seen-b
-bounds-seen-b c = omega arith
-
-pub returns-then-seen-b : goal.returns-then-seen-b
-unfolding new_within
-returns-then-seen-b c =
-    let m = c.args.list.now in
-    let n = c.args.g.blocks in
-    let i = c.loop-i.i in
-    let v = c.loop-i.invariant in
-    let s : elem (get_or m i 0) (take i m) ≡ true = sym (v.1.1.1.0 (get_or m i 0) (omega arith)) ∙ c.if-seen-b.true in
-    sym (ap (λ f. all_heads f [] m) (new_within_law c.args.g) ∙ heads_fail (new_within n) m i 0 (omega arith) v.1.1.1.1 (simp (le-leb _ _ c.if-b-lt-FRONT.false, lt-ltb _ _ c.if-b-hi.false, s)))
-
-pub bounds-seen-b-in-loop-i : goal.bounds-seen-b-in-loop-i
-bounds-seen-b-in-loop-i c = omega arith
-
-pub overflow_add-i : goal.overflow_add-i
-overflow_add-i c = omega arith
-
-pub loop-i-smaller : goal.loop-i-smaller
-loop-i-smaller c = omega arith
-
-pub loop-i-preserved : goal.loop-i-preserved
-unfolding new_within
-loop-i-preserved c =
-    let m = c.args.list.now in
-    let n = c.args.g.blocks in
-    let i = c.loop-i.i in
-    let v = c.loop-i.invariant in
-    let s : elem (get_or m i 0) (take i m) ≡ false = sym (v.1.1.1.0 (get_or m i 0) (omega arith)) ∙ c.if-seen-b.false in
-    (omega arith, (omega arith, (simp length-set v.1.1.0, (marks_more 128 c.loop-i.seen m i (omega arith) v.1.1.1.0 (omega arith), heads_pass (new_within n) m i 0 (omega arith) v.1.1.1.1 (simp (le-leb _ _ c.if-b-lt-FRONT.false, lt-ltb _ _ c.if-b-hi.false, s))))))
+    let n = c.from-hi.result in
+    let i = c.loop-b.b-index in
+    let v = c.loop-b.invariant in
+    let most = (geometry_in c.args.g c.requires).blocks_most in
+    let f = c.from-hi.ensures in
+    let l = rw c.from-b.ensures at c.if-b-lt-FRONT.false in
+    let h = rw c.from-b.ensures at c.if-b-hi.false in
+    let s : elem (get_or m i 0) (take i m) ≡ false = sym (v.1.0 (get_or m i 0) (omega arith)) ∙ (rw c.from-b.ensures at c.if-seen-b.false) in
+    rw c.from-b.ensures
+    (simp length-set v.0, (marks_more 128 c.loop-b.seen m i c.loop-b-test.true v.1.0 (omega arith), heads_pass (new_within n) m i 0 c.loop-b-test.true v.1.1 (simp (le-leb _ _ l, lt-ltb _ _ h, s))))
 
 pub returns : goal.returns
 returns c =
     let m = c.args.list.now in
-    let n = c.args.g.blocks in
-    let i = c.loop-i.i in
-    let v = c.loop-i.invariant in
-    sym (ap (λ f. all_heads f [] m) (new_within_law c.args.g) ∙ heads_end (new_within n) (take i m) m i (omega arith) v.1.1.1.1)
+    let n = c.from-hi.result in
+    let i = c.loop-b.b-index in
+    let e = ap (λ u. all_heads u [] m) (new_within_law c.args.g) ∙ ap (λ u. all_heads (new_within u) [] m) (sym c.from-hi.ensures) in
+    sym (e ∙ heads_end (new_within n) (take i m) m i c.loop-b-test.false c.loop-b.invariant.1.1)

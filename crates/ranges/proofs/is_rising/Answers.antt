@@ -1,42 +1,22 @@
--- `ranges::is_rising` meets its contract. The loop's invariant: each before the `i`-th is below the next, so that the list is rising where it is from there on. Assumes nothing.
-use mathlib.Core.Path.{refl, sym}
-use native.Mathlib.Omega.{arith}
-use borrow.Author.Tests.{lt-ltb, le-ltb}
-use Rattle.ranges.proofs.Rising.{rising_pass, rising_fail, rising_end}
+-- `ranges::is_rising` meets its contract: by the clause of `is_sorted_by`, each is below the next. Assumes nothing.
+use mathlib.Core.Path.{◌≡◌, sym}
+use mathlib.Core.Bool.{Bool, true, false}
+use mathlib.Core.List.{List}
+use Prim.Native.Nat.{ℕ}
+use Rattle.std.specs.List.{IsAllAdjacentAnswer}
+use Rattle.model.specs.Lists.{rising}
+use lib.Dec.{ltb}
+use borrow.Author.Rules.{rules}
+use borrow.Author.Tests.{tests}
+use Rattle.std.proofs.lemmas.List.Sorted.{answers_always}
+use Rattle.ranges.proofs.Rising.{rising_true, rising_false}
 use Rattle.ranges.proofs.is_rising.Goals as goal
-
-pub loop-i-init : goal.loop-i-init
-loop-i-init c = (omega arith, refl)
-
-pub bounds-list-i : goal.bounds-list-i
-bounds-list-i c = omega arith
-
-pub overflow_sub-i : goal.overflow_sub-i
-overflow_sub-i c = omega arith
-
-pub bounds-list-i-in-loop-i : goal.bounds-list-i-in-loop-i
-bounds-list-i-in-loop-i c = omega arith
-
-pub returns-then-list-i : goal.returns-then-list-i
-returns-then-list-i c =
-    let l = c.args.list.now in
-    let i = c.loop-i.i in
-    sym (rising_fail l i c.loop-i.invariant.0 (omega arith) c.loop-i.invariant.1 (le-ltb _ _ c.if-list-i.true))
-
-pub overflow_add-i : goal.overflow_add-i
-overflow_add-i c = omega arith
-
-pub loop-i-smaller : goal.loop-i-smaller
-loop-i-smaller c = omega arith
-
-pub loop-i-preserved : goal.loop-i-preserved
-loop-i-preserved c =
-    let l = c.args.list.now in
-    let i = c.loop-i.i in
-    (omega arith, rising_pass l i c.loop-i.invariant.0 (omega arith) c.loop-i.invariant.1 (lt-ltb _ _ c.if-list-i.false))
 
 pub returns : goal.returns
 returns c =
-    let l = c.args.list.now in
-    let i = c.loop-i.i in
-    sym (rising_end l i c.loop-i.invariant.0 (omega arith) c.loop-i.invariant.1)
+    let h = c.is_sorted_by.ensures.cases ltb (answers_always _ _ _ (λ f a r g e. search (rules, tests))) in
+    go c.args.list.now c.is_sorted_by.result h
+  where
+    go : (xs : List ℕ) (r : Bool) → IsAllAdjacentAnswer (λ x y b. b ≡ ltb x y) xs r → r ≡ rising xs
+    go xs true h = sym (rising_true xs h)
+    go xs false h = sym (rising_false xs h.0 h.1 h.2)

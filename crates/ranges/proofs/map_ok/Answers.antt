@@ -7,18 +7,12 @@ use Rattle.arrays.specs.Ranges.{geometry_in}
 use Rattle.ranges.specs.Ranges.{entry_within}
 use Rattle.ranges.proofs.map_ok.Goals as goal
 
-pub overflow_mul-hi : goal.overflow_mul-hi
-overflow_mul-hi c =
-    let h = geometry_in c.args.g c.requires in
-    let m : c.args.g.blocks * c.args.g.pages ≤ 128 * 64 = mul-le-mul h.blocks_most h.pages_most in
-    omega arith
-
 pub entries_ok-requires : goal.entries_ok-requires
 entries_ok-requires c =
     let h = geometry_in c.args.g c.requires in
     let m : c.args.g.blocks * c.args.g.pages ≤ 128 * 64 = mul-le-mul h.blocks_most h.pages_most in
-    omega arith
+    rw (c.from.ensures, c.from-pages.ensures) (omega arith)
 
 pub returns : goal.returns
 unfolding map_ok entry_ok data_page entry_within
-returns c = c.entries_ok.ensures
+returns c = rw (c.from.ensures, c.from-pages.ensures) at c.entries_ok.ensures

@@ -1,13 +1,9 @@
 -- `reclaim::copies_refusal` meets its contract: a check after the other; where no copy is due, none applies. Assumes that array and zone lists agree.
-use mathlib.Core.Path.{◌≡◌, sym}
 use native.Mathlib.Omega.{arith}
-use lib.ListN.{length}
-use lib.Seq.{length-take-le}
 use borrow.Author.Tests.{lt-ltb, le-ltb, ne_eqb}
 use Rattle.model.specs.Order.{first_number}
 use Rattle.zones.proofs.Listed.{ready_listed, available_within}
 use Rattle.reclaim.proofs.Room.{none_due}
-use borrow.Author.Rules.{rules}
 use Rattle.reclaim.proofs.copies_refusal.Goals as goal
 
 pub returns-then-due-eq0 : goal.returns-then-due-eq0
@@ -17,17 +13,8 @@ pub returns-then-s-due : goal.returns-then-s-due
 unfolding first_number
 returns-then-s-due c = simp (ne_eqb _ _ c.if-due-eq0.false, lt-ltb _ _ c.if-s-due.true)
 
-pub slice_bounds-a-end : goal.slice_bounds-a-end
-slice_bounds-a-end c =
-    let l : length c.args.s.zones.available ≡ 3 = search rules in
-    let k = (ready_listed _ _ _ c.requires.0).few in
-    omega arith
-
-pub slice_bounds-clean_short-end : goal.slice_bounds-clean_short-end
-slice_bounds-clean_short-end c =
-    let l : length c.args.s.zones.available ≡ 3 = search rules in
-    let k = (ready_listed _ _ _ c.requires.0).few in
-    sym (length-take-le c.args.s.zones.na c.args.s.zones.available (omega arith))
+pub shared_ref_as_front-available : goal.shared_ref_as_front-available
+shared_ref_as_front-available c = omega (arith, (ready_listed _ _ _ c.requires.0).few)
 
 pub clean_short-requires : goal.clean_short-requires
 clean_short-requires c = available_within _ _ _ c.requires.0

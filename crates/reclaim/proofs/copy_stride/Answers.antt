@@ -1,5 +1,5 @@
 -- `reclaim::copy_stride` meets its contract: from what its calls ensure. Assumes nothing.
-use mathlib.Core.Path.{refl}
+use mathlib.Core.Path.{refl, ◌∙◌}
 use native.Mathlib.Omega.{arith}
 use Rattle.change.proofs.Next.{next_fits, next_small, next_erased, some_pages}
 use Rattle.strides.proofs.Within.{fit_ready}
@@ -21,13 +21,13 @@ overflow_mul-from c =
     let p = copy_places c.args.s c.args.array.now c.args.map.now c.args.j c.requires in
     omega arith
 
-pub overflow_add-to : goal.overflow_add-to
-overflow_add-to c =
+pub overflow_add-from : goal.overflow_add-from
+overflow_add-from c =
     let p = copy_places c.args.s c.args.array.now c.args.map.now c.args.j c.requires in
     omega arith
 
-pub slice_bounds-copy-end : goal.slice_bounds-copy-end
-slice_bounds-copy-end c =
+pub slice_bounds-copy_from_slice-end-2 : goal.slice_bounds-copy_from_slice-end-2
+slice_bounds-copy_from_slice-end-2 c =
     let p = copy_places c.args.s c.args.array.now c.args.map.now c.args.j c.requires in
     omega arith
 
@@ -55,9 +55,8 @@ with_copied-requires c = some_pages c.args.s c.args.array.now (fit_ready _ _ _ c
 pub returns : goal.returns
 returns c =
     let a = c.args in
-    let p = copy_places a.s a.array.now a.map.now a.j c.requires in
     let r = fit_ready _ _ _ c.requires.fit in
-    let d = data_copied a.array.now a.j _ _ _ _ p.«from» refl refl refl c.copy-n.ensures.1 in
+    let d = c.copy_from_slice.ensures.after ∙ data_copied a.array.now a.j _ refl in
     copy_strode a.s a.array.now a.map.now a.j _ c.find_page-lpn.ensures _ d _ c.next_page-k.ensures
     (next_erased a.s a.array.now r c.requires.clean)
     _ _ c.put_lone.ensures _ c.with_copied.ensures

@@ -1,38 +1,18 @@
--- `reclaim::find_page` meets its contract. The loop's invariant: no entry before index `i` is page `j`. Assumes nothing.
-use mathlib.Core.Path.{sym}
-use native.Mathlib.Omega.{arith}
+-- `reclaim::find_page` meets its contract: the first place of the page, or the length (`first_place`). Assumes nothing.
+use mathlib.Core.Path.{◌≡◌, ap, ◌∙◌}
 use lib.Dec.{eqb}
-use borrow.Author.Tests.{eq-eqb, ne_eqb}
-use Rattle.blocks.proofs.Loops.{find_pass, find_hit, find_end}
+use lib.ListN.{length}
+use borrow.Author.Rules.{rules}
+use borrow.Author.Tests.{tests}
+use Rattle.std.specs.Prelude.{ℕ, Option, position, unwrap_or}
+use Rattle.std.proofs.lemmas.Iterator.{YieldsList-from_slice}
+use Rattle.std.proofs.lemmas.Iterator.Search.{position_from_yields_List}
+use Rattle.reclaim.proofs.Lowest.{first_place}
 use Rattle.reclaim.proofs.find_page.Goals as goal
-
-pub loop-i-init : goal.loop-i-init
-loop-i-init c = (omega arith, omega arith)
-
-pub offset_bounds-map-i : goal.offset_bounds-map-i
-offset_bounds-map-i c = omega arith
-
-pub bounds-map-i : goal.bounds-map-i
-bounds-map-i c = omega arith
-
-pub returns-then-map-i : goal.returns-then-map-i
-returns-then-map-i c =
-    let a = c.args in
-    sym (find_hit (eqb a.j) a.map.now c.loop-i.i 0 (omega arith) c.loop-i.invariant.1 (eq-eqb a.j _ (sym c.if-map-i.true)))
-
-pub overflow_add-i : goal.overflow_add-i
-overflow_add-i c = omega arith
-
-pub loop-i-smaller : goal.loop-i-smaller
-loop-i-smaller c = omega arith
-
-pub loop-i-preserved : goal.loop-i-preserved
-loop-i-preserved c =
-    let a = c.args in
-    (omega arith, find_pass (eqb a.j) a.map.now c.loop-i.i 0 (omega arith) c.loop-i.invariant.1 (ne_eqb a.j _ (λ e. c.if-map-i.false (sym e))))
 
 pub returns : goal.returns
 returns c =
-    let a = c.args in
-    let e = find_end (eqb a.j) a.map.now c.loop-i.i (omega arith) c.loop-i.invariant.1 in
-    omega arith
+    let xs = c.args.map.now in
+    let e : c.position.result ≡ position (λ y. eqb y c.args.j) xs =
+    position_from_yields_List (λ y. eqb y c.args.j) _ _ c.position.result c.position.ensures.ran (YieldsList-from_slice xs cc) (λ x b q k. search (rules, tests)) in
+    c.unwrap_or.ensures ∙ ap (λ (o : Option ℕ). unwrap_or o (length xs)) e ∙ first_place c.args.j xs

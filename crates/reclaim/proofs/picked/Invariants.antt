@@ -9,7 +9,9 @@ use Rattle.reclaim.proofs.Picking.{least_of, pick_by}
 use Rattle.reclaim.proofs.picked.Given as goal
 
 abbrev pub invariant-loop-b : goal.invariant-loop-b
-invariant-loop-b l = (2 ≤ l.b) × ((l.b ≤ l.last) × ((l.last ≤ 128) × ((length l.counts ≡ 128) × ((l.least ≡ least_of l.counts (found_of l.best)) × (pick_by l.counts 2 (l.last - 2) nothing ≡ pick_by l.counts l.b (l.last - l.b) (found_of l.best))))))
-
-abbrev pub decreases-loop-b : goal.decreases-loop-b
-decreases-loop-b l = l.last - l.b
+invariant-loop-b l = record {
+  few : l.last ≤ 128;
+  long : length l.counts ≡ 128;
+  least : l.least ≡ least_of l.counts (found_of l.best);
+  picked : pick_by l.counts 2 (l.last - 2) nothing ≡ pick_by l.counts l.b (l.last - l.b) (found_of l.best);
+}

@@ -8,19 +8,16 @@ use Rattle.reclaim.specs.Copies.{looked}
 use Rattle.reclaim.proofs.Carried.{none_gains}
 use Rattle.reclaim.proofs.refusal.Goals as goal
 
-pub picked-found-requires : goal.picked-found-requires
-picked-found-requires c =
+pub picked-requires : goal.picked-requires
+picked-requires c =
     let n = c.requires.entries in
     let l = (geometry_in c.args.s.geometry c.requires.shape).logical_most in
     record { shape = c.requires.shape; lists = c.requires.zones; few = omega arith }
 
 pub block_refusal-requires : goal.block_refusal-requires
 unfolding picked
-block_refusal-requires c = (c.requires, sym c.picked-found.ensures ∙ ap found_of c.in-At.is)
+block_refusal-requires c = (c.requires, sym c.picked.ensures ∙ ap found_of c.in-Some.is)
 
-pub returns-in-Nothing : goal.returns-in-Nothing
+pub returns-in_default-clause-refusal : goal.returns-in_default-clause-refusal
 unfolding picked
-returns-in-Nothing c = none_gains (looked c.args.s c.args.array.now c.args.map.now) (sym c.picked-found.ensures ∙ ap found_of c.in-Nothing.is) _ _
-
-pub returns-in-At : goal.returns-in-At
-returns-in-At c = c.block_refusal.ensures
+returns-in_default-clause-refusal c = none_gains (looked c.args.s c.args.array.now c.args.map.now) (sym c.picked.ensures ∙ ap found_of c.in_default.is)

@@ -1,7 +1,6 @@
 -- `recover::scan_pages` meets its contract, return by return. Assumes nothing.
 use mathlib.Core.Path.{sym}
 use native.Mathlib.Omega.{arith}
-use lib.ListN.{length}
 use lib.Seq.{length-take-le}
 use Rattle.model.specs.Zones.{scan_in}
 use Rattle.scan.proofs.Loops.{listed_pages}
@@ -39,20 +38,6 @@ returns-then-not-pages_good c =
     let r = c.pages_good in
     scan_refused a.g.planes a.g.logical (scan_in a.array.now a.g.pages a.bs.now) a.floor a.entries.now a.map.now r.result r.ensures.0 c.if-not-pages_good.true
 
-pub slice_bounds-copy-end : goal.slice_bounds-copy-end
-slice_bounds-copy-end c =
-    let a = c.args in
-    let h = c.requires.0 in
-    let l = c.requires.1 in
-    sym (length-take-le (length a.map.now) a.entries.now (omega (arith, h.mapped, h.enough)))
-
-pub copy-requires : goal.copy-requires
-copy-requires c =
-    let a = c.args in
-    let h = c.requires.0 in
-    let l = c.requires.1 in
-    length-take-le (length a.map.now) a.entries.now (omega (arith, h.mapped, h.enough))
-
 pub slice_bounds-redo-end : goal.slice_bounds-redo-end
 slice_bounds-redo-end c =
     let a = c.args in
@@ -80,12 +65,9 @@ redo-requires c =
     let e = c.visit-seen.ensures in
     let r = c.pages_good in
     let ok = c.if-not-pages_good.false in (
-      redo_ready a.g a.array.now a.map.now a.bs.now a.entries.now h r.result r.ensures.0 ok _ c.copy.ensures _ _ _ _ c.list.ensures (omega (arith, l.room, c.other-1.given)) e.1 (r.ensures.1 ok),
+      redo_ready a.g a.array.now a.map.now a.bs.now a.entries.now h r.result r.ensures.0 ok _ c.copy_from_slice.ensures.after _ _ _ _ c.list.ensures (omega (arith, l.room, c.other-1.given)) e.1 (r.ensures.1 ok),
       top_met a.g a.array.now a.map.now a.bs.now a.entries.now h r.result r.ensures.0 ok _ c.list.ensures s e.0,
     )
-
-pub shape_of-order : goal.shape_of-order
-shape_of-order c = omega (arith, c.order-2-1.given, c.order-1.given)
 
 pub returns : goal.returns
 returns c =
@@ -97,4 +79,4 @@ returns c =
     let r = c.pages_good in
     let ok = c.if-not-pages_good.false in
     scan_passed a.g.planes a.g.logical (scan_in a.array.now a.g.pages a.bs.now) a.floor a.entries.now a.map.now r.result r.ensures.0 ok s.top (top_met a.g a.array.now a.map.now a.bs.now a.entries.now h r.result r.ensures.0 ok _ c.list.ensures s e.0)
-    h.mapped _ c.copy.ensures _ c.redo.ensures
+    h.mapped _ c.copy_from_slice.ensures.after _ c.redo.ensures

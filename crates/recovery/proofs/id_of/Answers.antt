@@ -7,4 +7,4 @@ use Rattle.recovery.proofs.id_of.Goals as goal
 
 pub returns : goal.returns
 unfolding key_at
-returns c = c.word32.ensures ∙ ap (λ q. le32 q 516) (c.page_of.ensures.0 ∙ ap (page_at c.args.array.now) c.wide16.ensures)
+returns c = c.word32.ensures ∙ ap (λ q. le32 q 516) (c.page_of.ensures.0 ∙ ap (page_at c.args.array.now) c.from.ensures)

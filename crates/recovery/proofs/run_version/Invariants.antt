@@ -1,6 +1,5 @@
--- `recovery::run_version` meets its contract. The loop's invariant: the version of the first i pages. Assumes nothing.
+-- `recovery::run_version` meets its contract. The loop's invariant: the version of the pages before k. Assumes nothing.
 use mathlib.Core.Path.{◌≡◌}
-use Prim.Native.Nat.{◌-◌, ◌≤◌}
 use lib.ListN.{length, take}
 use lib.Dec.{eqb}
 use Rattle.model.specs.Lists.{those}
@@ -9,8 +8,5 @@ use Rattle.model.specs.Recovery.{top}
 use Rattle.scan.specs.Taken.{entries_in}
 use Rattle.recovery.proofs.run_version.Given as goal
 
-abbrev pub invariant-loop-i : goal.invariant-loop-i
-invariant-loop-i l = (l.i ≤ length l.run) × (l.v ≡ top (those (λ (e : Entry). eqb e.cnt (length l.run)) (entries_in l.array (take l.i l.run))))
-
-abbrev pub decreases-loop-i : goal.decreases-loop-i
-decreases-loop-i l = length l.run - l.i
+abbrev pub invariant-loop-k : goal.invariant-loop-k
+invariant-loop-k l = l.v ≡ top (those (λ (e : Entry). eqb e.cnt (length l.run)) (entries_in l.array (take l.k-index l.run)))

@@ -1,48 +1,43 @@
--- `refill::data_blocks` meets its contract. The loop's invariant: the first `i` data blocks stand in the list, zeros behind them. Assumes nothing.
-use mathlib.Core.Path.{◌≡◌, refl}
-use Prim.Native.Nat.{◌-◌}
+-- `refill::data_blocks` meets its contract: one block more at each turn. Assumes nothing.
+use mathlib.Core.Path.{◌≡◌, sym, ap, ◌∙◌}
+use mathlib.Core.List.{[], ◌∷◌, ◌++◌}
+use Prim.Native.Nat.{◌+◌, ◌-◌}
 use native.Mathlib.Omega.{arith}
+use lib.ListN.{length}
+use Rattle.model.specs.Lists.{up_from}
+use Rattle.arrays.specs.Tests.{length_up, up_more}
 use Rattle.arrays.specs.Ranges.{geometry_in}
-use Rattle.refill.proofs.Free.{fill_none, fill_more, filled}
 use Rattle.refill.proofs.data_blocks.Goals as goal
 
-pub overflow_sub-n : goal.overflow_sub-n
-overflow_sub-n c =
-    let h = geometry_in c.args.g c.requires in
-    let b = h.blocks_least in
-    omega arith
-
-pub overflow_cast-n : goal.overflow_cast-n
-overflow_cast-n c =
+pub overflow_cast-b-end : goal.overflow_cast-b-end
+overflow_cast-b-end c =
     let h = geometry_in c.args.g c.requires in
     let b = h.blocks_most in
     omega arith
 
-pub loop-i-init : goal.loop-i-init
-loop-i-init c =
+pub loop-b-init : goal.loop-b-init
+unfolding up_from
+loop-b-init c = c.none-all.ensures
+
+pub with-all-requires : goal.with-all-requires
+with-all-requires c =
     let h = geometry_in c.args.g c.requires in
     let b = h.blocks_most in
-    (omega arith, (omega arith, fill_none _ refl))
+    let l = ap length c.loop-b.invariant in
+    let k = length_up 2 (c.loop-b.b - 2) in
+    omega arith
 
-pub overflow_add-list : goal.overflow_add-list
-overflow_add-list c = omega arith
-
-pub overflow_cast-list : goal.overflow_cast-list
-overflow_cast-list c = omega arith
-
-pub bounds-list-i : goal.bounds-list-i
-bounds-list-i c = omega arith
-
-pub overflow_add-i : goal.overflow_add-i
-overflow_add-i c = omega arith
-
-pub loop-i-smaller : goal.loop-i-smaller
-loop-i-smaller c = omega arith
-
-pub loop-i-preserved : goal.loop-i-preserved
-loop-i-preserved c = (omega arith, (omega arith, fill_more _ _ (omega arith) c.loop-i.invariant.1.1))
+pub loop-b-preserved : goal.loop-b-preserved
+loop-b-preserved c =
+    let b = c.loop-b.b in
+    let e : b - 2 + 1 ≡ b + 1 - 2 = omega arith in
+    let d : 2 + (b - 2) ≡ b = omega arith in
+    let m : up_from 2 (b - 2 + 1) ≡ up_from 2 (b - 2) ++ (b ∷ []) = rw d at (up_more 2 (b - 2)) in
+    c.with-all.ensures ∙ rw c.loop-b.invariant (sym m ∙ ap (up_from 2) e)
 
 pub returns : goal.returns
 returns c =
-    let e : c.loop-i.i ≡ c.args.g.blocks - 2 = omega arith in
-    filled _ _ (rw e at c.loop-i.invariant.1.1)
+    let h = geometry_in c.args.g c.requires in
+    let a = h.blocks_least in
+    let e : c.loop-b.b ≡ c.args.g.blocks = omega arith in
+    rw e at c.loop-b.invariant

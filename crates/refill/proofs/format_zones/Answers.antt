@@ -1,23 +1,18 @@
 -- `refill::format_zones` meets its contract: the refill of no available and all free blocks, as zones. Assumes nothing.
-use native.Mathlib.Omega.{arith}
-use Rattle.model.specs.Zones.{format_zones}
-use Rattle.blocks.proofs.Kept.{kept_count}
-use Rattle.refill.proofs.Taking.{kept_lists, kept_taken, refilled_available, refilled_free, refilled_zones, all_free}
+use mathlib.Core.Path.{refl, ap, ◌∙◌}
+use mathlib.Core.List.{[]}
+use Rattle.model.specs.Zones.{Taken, zones_taken, refill, format_zones}
+use Rattle.refill.proofs.Taking.{taken_of, refill_fits, all_free}
 use Rattle.refill.proofs.format_zones.Goals as goal
 
-pub refill-t-requires : goal.refill-t-requires
-refill-t-requires c = kept_taken c.args.g c.requires _ _ (kept_lists _ _ 2 _ _ c.none.ensures c.data_blocks.ensures) (all_free c.args.g c.requires)
+pub refill-requires : goal.refill-requires
+refill-requires c = rw (taken_of _ _ _ _ 2 2 c.none.ensures c.data_blocks.ensures refl) (all_free c.args.g c.requires)
 
-pub zones_of-requires : goal.zones_of-requires
-zones_of-requires c =
-    let h = all_free c.args.g c.requires in
-    let e = kept_lists _ _ 2 _ _ c.none.ensures c.data_blocks.ensures in
-    let n = kept_count _ _ c.none-2.ensures in
-    (refilled_available c.args.g _ h _ _ e c.refill-t.ensures, (omega arith, refilled_free c.args.g _ h _ _ e c.refill-t.ensures))
+pub zones-requires : goal.zones-requires
+zones-requires c = rw (c.refill.ensures, taken_of _ _ _ _ 2 2 c.none.ensures c.data_blocks.ensures refl) ((refill_fits c.args.g 3 _ (all_free c.args.g c.requires)).few)
 
 pub returns : goal.returns
 unfolding format_zones
 returns c =
-    let h = all_free c.args.g c.requires in
-    let e = kept_lists _ _ 2 _ _ c.none.ensures c.data_blocks.ensures in
-    refilled_zones c.args.g _ h _ _ e c.refill-t.ensures _ _ c.none-2.ensures _ c.zones_of.ensures
+    c.zones.ensures
+    ∙ rw (c.none-2.ensures, c.refill.ensures) (ap (λ (t : Taken). zones_taken [] (refill c.args.g 3 t)) (taken_of _ _ _ _ 2 2 c.none.ensures c.data_blocks.ensures refl))

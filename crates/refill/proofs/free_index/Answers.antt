@@ -1,22 +1,16 @@
--- `refill::free_index` meets its contract: the first free block at or after the pointer, or the first of all. Assumes nothing.
-use mathlib.Core.Path.{◌≡◌}
-use native.Mathlib.Omega.{arith}
-use lib.ListN.{length}
-use lib.Seq.{length-take-le}
+-- `refill::free_index` meets its contract: by the clause of `position`. Assumes nothing.
+use mathlib.Core.Path.{◌≡◌, ◌∙◌}
+use lib.Dec.{leb}
 use borrow.Author.Rules.{rules}
-use Rattle.refill.proofs.Free.{index_found, index_none}
+use borrow.Author.Tests.{tests}
+use Rattle.std.specs.List.{position}
+use Rattle.std.proofs.lemmas.Iterator.{YieldsList-from_slice}
+use Rattle.std.proofs.lemmas.Iterator.Search.{position_from_yields_List}
+use Rattle.refill.proofs.Free.{index_is}
 use Rattle.refill.proofs.free_index.Goals as goal
-
-pub returns-then-i-free : goal.returns-then-i-free
-returns-then-i-free c =
-    let a = c.args in
-    let l : length a.free.list ≡ 126 = search rules in
-    let k = length-take-le a.free.n a.free.list (omega arith) in
-    index_found _ _ _ c.first_from-i.ensures (omega arith)
 
 pub returns : goal.returns
 returns c =
-    let a = c.args in
-    let l : length a.free.list ≡ 126 = search rules in
-    let k = length-take-le a.free.n a.free.list (omega arith) in
-    index_none _ _ _ c.first_from-i.ensures (omega arith)
+    let p : c.position.result ≡ position (leb c.args.pointer) c.args.free.now =
+    position_from_yields_List (leb c.args.pointer) _ _ c.position.result c.position.ensures.ran (YieldsList-from_slice _ c.iter.ensures.rest) (λ x b q j. search (rules, tests)) in
+    c.unwrap_or.ensures ∙ rw p (index_is c.args.pointer c.args.free.now)

@@ -11,10 +11,10 @@ overflow_add-result c =
     let b = h.blocks_most in
     omega arith
 
-pub returns-then-next-g : goal.returns-then-next-g
+pub returns-then-from-g : goal.returns-then-from-g
 unfolding past_block
-returns-then-next-g c = simp (lt-ltb _ _ c.if-next-g.true)
+returns-then-from-g c = simp (lt-ltb _ _ (rw c.from.ensures at c.if-from-g.true))
 
-pub returns : goal.returns
+pub returns-else-from-g : goal.returns-else-from-g
 unfolding past_block
-returns c = simp (le-ltb _ _ c.if-next-g.false)
+returns-else-from-g c = simp (le-ltb _ _ (rw c.from.ensures at c.if-from-g.false))

@@ -7,12 +7,12 @@ use Rattle.reporting.proofs.recovered.Goals as goal
 
 pub returns-then-answer-ne0 : goal.returns-then-answer-ne0
 unfolding empty_hold
-returns-then-answer-ne0 c = refusal_told _ _ _ _ _ _ _ _ _ _ c.recover-r.ensures refl c.fresh-s.ensures c.number-answer.ensures c.if-answer-ne0.true c.number_line.ensures (omega arith)
+returns-then-answer-ne0 c = refusal_told _ _ _ _ _ _ _ _ _ _ c.recover-r.ensures refl c.fresh.ensures c.number-answer.ensures c.if-answer-ne0.true (rw c.from.ensures at c.number_line.ensures) (omega arith)
 
 pub torn_pages-torn-requires : goal.torn_pages-torn-requires
 unfolding empty_hold
-torn_pages-torn-requires c = told_fits _ _ _ _ _ _ _ _ _ _ c.recover-r.ensures refl c.fresh-s.ensures c.number-answer.ensures c.if-answer-ne0.false
+torn_pages-torn-requires c = told_fits _ _ _ _ _ _ _ _ _ _ c.recover-r.ensures refl c.fresh.ensures c.number-answer.ensures c.if-answer-ne0.false
 
 pub returns : goal.returns
 unfolding empty_hold
-returns c = recovery_told _ _ _ _ _ _ _ _ _ _ c.recover-r.ensures refl c.fresh-s.ensures c.number-answer.ensures c.if-answer-ne0.false _ c.torn_pages-torn.ensures c.done_lines.ensures
+returns c = recovery_told _ _ _ _ _ _ _ _ _ _ c.recover-r.ensures refl c.fresh.ensures c.number-answer.ensures c.if-answer-ne0.false _ c.torn_pages-torn.ensures c.done_lines.ensures

@@ -4,4 +4,4 @@ use Rattle.model.specs.Frame.{fresh_state}
 use Rattle.sessions.proofs.blank.Goals as goal
 
 pub returns : goal.returns
-returns c = c.fresh-s.ensures ∙ ap fresh_state c.geometry-g.ensures
+returns c = c.fresh.ensures ∙ ap fresh_state c.geometry.ensures

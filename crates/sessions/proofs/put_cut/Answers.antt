@@ -4,6 +4,7 @@ use mathlib.Core.List.{List, ◌∷◌}
 use Prim.Native.Nat.{ℕ}
 use native.Mathlib.Omega.{arith}
 use Rattle.text.specs.Text.{listed}
+use Rattle.text.proofs.Lists.{put_listed}
 use Rattle.text.proofs.Putting.{puts, put_is, put_within, put_nothing}
 use Rattle.sessions.proofs.Cuts.{map_recovered}
 use Rattle.sessions.proofs.put_cut.Goals as goal
@@ -13,6 +14,6 @@ returns-then-not-cut c = rw c.if-not-cut.true (put_nothing _ _ _)
 
 pub returns : goal.returns
 returns c =
-    let map = map_recovered _ _ _ _ _ _ _ _ _ _ c.recover.ensures c.geometry-g.ensures c.blank-d.ensures refl refl in
+    let map = map_recovered _ _ _ _ _ _ _ _ _ _ c.recover.ensures c.geometry.ensures c.blank.ensures refl refl in
     rw c.if-not-cut.false
-    (put_within (put_is (ap (λ (m : List ℕ). 32 ∷ listed 0 m) map) (puts c.put-a.ensures c.put_entries.ensures)) (omega arith))
+    (put_within (put_is (ap (λ (m : List ℕ). 32 ∷ listed 0 m) map) (puts c.put-a.ensures (put_listed _ c.put_list.ensures))) (omega arith))

@@ -1,4 +1,4 @@
--- `sessions::put_lines` meets its contract. The loop's invariant: the lines put and those of the sessions that are left are all; the measure is the sessions that are left. Assumes nothing.
+-- `sessions::put_lines` meets its contract. The loop's invariant: the lines put and those of the sessions that are left are all. Assumes nothing.
 use mathlib.Core.Path.{◌≡◌}
 use mathlib.Core.List.{◌++◌}
 use Prim.Native.Nat.{◌-◌, ◌≤◌}
@@ -9,8 +9,4 @@ use Rattle.sessions.proofs.put_lines.Given as goal
 
 abbrev pub invariant-loop-k : goal.invariant-loop-k
 invariant-loop-k l =
-    (l.k ≤ l.count) × ((l.end ≤ length l.out) × ((length l.out ≡ length l.initial.out)
-    × (take l.end l.out ++ lines_in (sessions_from l.n l.k (l.count - l.k)) ≡ take l.at l.initial.out ++ lines_in (sessions_from l.n 0 l.count))))
-
-abbrev pub decreases-loop-k : goal.decreases-loop-k
-decreases-loop-k l = l.count - l.k
+    (l.end ≤ length l.out) × (take l.end l.out ++ lines_in (sessions_from l.n l.k (l.count - l.k)) ≡ take l.at l.initial.out ++ lines_in (sessions_from l.n 0 l.count))

@@ -5,18 +5,18 @@ use Rattle.sessions.specs.Text.{will_program}
 use Rattle.sessions.proofs.Numbers.{begin_number, write_number, commit_number, abort_number}
 use Rattle.sessions.proofs.will_program.Goals as goal
 
-pub returns-then-c-lt3 : goal.returns-then-c-lt3
+pub returns-in-3-to-6 : goal.returns-in-3-to-6
 unfolding will_program
-returns-then-c-lt3 c = rw (begin_number _ c.requires.0 c.if-c-lt3.true) refl
+returns-in-3-to-6 c = rw (write_number c.args.c (omega arith) (omega arith)) c.holds_page.ensures
 
-pub returns-then-c-lt7 : goal.returns-then-c-lt7
+pub returns-in-7-to-8 : goal.returns-in-7-to-8
 unfolding will_program
-returns-then-c-lt7 c = rw (write_number _ c.if-c-lt3.false c.if-c-lt7.true) c.holds_page.ensures
+returns-in-7-to-8 c = rw (commit_number c.args.c (omega arith) (omega arith)) c.holds_page-in-7-to-8.ensures
 
-pub returns-then-c-lt9 : goal.returns-then-c-lt9
+pub returns-in_default : goal.returns-in_default
 unfolding will_program
-returns-then-c-lt9 c = rw (commit_number _ c.if-c-lt7.false c.if-c-lt9.true) c.holds_page-then-c-lt9.ensures
+returns-in_default c = let h = c.in_default in rw (begin_number c.args.c (omega arith) (omega arith)) refl
 
-pub returns : goal.returns
+pub returns-in_default-2 : goal.returns-in_default-2
 unfolding will_program
-returns c = rw (abort_number _ c.if-c-lt9.false (omega (arith, c.requires.1))) refl
+returns-in_default-2 c = let h = c.in_default in rw (abort_number c.args.c (omega arith) (omega arith)) refl

@@ -22,7 +22,7 @@ returns c =
       c.pair_at-2.ensures,
       c.pair_at-3.ensures,
       c.pair_at-4.ensures,
-      c.add3_pairs-a.ensures,
-      c.add3_pairs-b.ensures,
-      c.add3_pairs-c.ensures,
+      c.add3-a.ensures,
+      c.add3-b.ensures,
+      c.add3-c.ensures,
     )

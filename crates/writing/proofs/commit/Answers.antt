@@ -1,4 +1,4 @@
--- `writing::commit` meets its contract, as every command does: by what refuses it (`refuses`), else by its plan carried out (`carries`): the place is
+-- `writing::commit` meets its contract: as every command does: by what refuses it (`refuses_why`), else by its plan carried out (`carries`): the place is
 -- forgotten where it has no page, else by what `mark` ensures. Assumes nothing.
 use Prim.Native.Nat.{◌<◌}
 use native.Mathlib.Omega.{arith}
@@ -7,71 +7,40 @@ use Rattle.model.specs.World.{World, apply_op}
 use Rattle.model.specs.Transactions.{place_with, forget_plan}
 use Rattle.model.specs.Commands.{carried, commit}
 use Rattle.arrays.specs.Order.{Unless}
-use Rattle.frame.proofs.Outcomes.{refusal_known, refuses, passes, carries}
-use Rattle.writing.proofs.Clean.{place_low, place_taking}
+use Rattle.frame.proofs.Outcomes.{refuses_why, passes, carries}
+use Rattle.writing.proofs.Clean.{place_taking}
 use Rattle.writing.proofs.commit.Goals as goal
 
-pub refused-requires : goal.refused-requires
-refused-requires c =
-    let a = c.args in
-    let w : World = record { array = a.array.now; map = a.map.now; hold = a.hold.now; state = a.s } in
-    refusal_known w (commit a.id) _ c.commit_refusal-n.ensures c.if-n-ne0.true
-
-pub returns-then-n-ne0 : goal.returns-then-n-ne0
-returns-then-n-ne0 c =
-    let a = c.args in
-    let w : World = record { array = a.array.now; map = a.map.now; hold = a.hold.now; state = a.s } in
-    refuses w (commit a.id) _ c.commit_refusal-n.ensures c.if-n-ne0.true _ _ c.refused.ensures
-
-pub offset_bounds-ps-i : goal.offset_bounds-ps-i
-unfolding Unless
-offset_bounds-ps-i c =
-    let a = c.args in
-    let w : World = record { array = a.array.now; map = a.map.now; hold = a.hold.now; state = a.s } in
-    let l : c.place_of-i.result < 8 = passes w (commit a.id) _ c.commit_refusal-n.ensures c.if-n-ne0.false (λ f i begun spent short.
-    rw c.place_of-i.ensures (place_low w (not-false _ f) a.id begun)) in
-    omega (arith, l)
-
-pub bounds-ps-i : goal.bounds-ps-i
-unfolding Unless
-bounds-ps-i c =
-    let a = c.args in
-    let w : World = record { array = a.array.now; map = a.map.now; hold = a.hold.now; state = a.s } in
-    let l : c.place_of-i.result < 8 = passes w (commit a.id) _ c.commit_refusal-n.ensures c.if-n-ne0.false (λ f i begun spent short.
-    rw c.place_of-i.ensures (place_low w (not-false _ f) a.id begun)) in
-    omega (arith, l)
-
-pub forgotten-requires : goal.forgotten-requires
-unfolding Unless
-forgotten-requires c =
-    let a = c.args in
-    let w : World = record { array = a.array.now; map = a.map.now; hold = a.hold.now; state = a.s } in
-    passes w (commit a.id) _ c.commit_refusal-n.ensures c.if-n-ne0.false (λ f i begun spent short.
-    rw c.place_of-i.ensures (place_low w (not-false _ f) a.id begun))
-
-pub returns-then-p-eq0 : goal.returns-then-p-eq0
+pub returns-in-Ok : goal.returns-in-Ok
 unfolding carried apply_op forget_plan
-returns-then-p-eq0 c =
+returns-in-Ok c =
     let a = c.args in
     let w : World = record { array = a.array.now; map = a.map.now; hold = a.hold.now; state = a.s } in
-    let place = c.place_of-i.ensures in
-    let none = rw place at (eq-eqb _ _ c.if-p-eq0.true) in
-    carries w (commit a.id) _ c.commit_refusal-n.ensures c.if-n-ne0.false _ (simp (none, c.forgotten.ensures, place))
+    let i = c.in-Ok.ensures in
+    let none = rw i.place.0 at (eq-eqb _ _ c.if-s-i-eq0.true) in
+    carries w (commit a.id) i.refusal _ (simp (none, c.forgotten.ensures, i.place.0))
 
-pub mark-t-requires : goal.mark-t-requires
+pub mark-requires : goal.mark-requires
 unfolding Unless
-mark-t-requires c =
+mark-requires c =
     let a = c.args in
     let w : World = record { array = a.array.now; map = a.map.now; hold = a.hold.now; state = a.s } in
-    let place = c.place_of-i.ensures in
-    let some = c.if-p-eq0.false in
-    passes w (commit a.id) _ c.commit_refusal-n.ensures c.if-n-ne0.false (λ f i begun spent short.
-    let many : 0 < (place_with a.id w).count = rw (← place) (omega (arith, some)) in
-    (place_taking w (not-false _ f) a.id begun spent short many, (rw place (place_low w (not-false _ f) a.id begun), omega (arith, some))))
+    let i = c.in-Ok.ensures in
+    let some = c.if-s-i-eq0.false in
+    passes w (commit a.id) i.refusal (λ f idle begun spent short.
+    let many : 0 < (place_with a.id w).count = rw (← i.place.0) (omega (arith, some)) in
+    (place_taking w (not-false _ f) a.id begun spent short many, (i.place.1, omega (arith, some))))
 
-pub returns : goal.returns
-returns c =
+pub returns-in-Ok-2 : goal.returns-in-Ok-2
+returns-in-Ok-2 c =
     let a = c.args in
     let w : World = record { array = a.array.now; map = a.map.now; hold = a.hold.now; state = a.s } in
-    let some = rw c.place_of-i.ensures at (ne_eqb _ _ c.if-p-eq0.false) in
-    carries w (commit a.id) _ c.commit_refusal-n.ensures c.if-n-ne0.false _ (simp some (rw c.place_of-i.ensures at c.mark-t.ensures))
+    let i = c.in-Ok.ensures in
+    let some = rw i.place.0 at (ne_eqb _ _ c.if-s-i-eq0.false) in
+    carries w (commit a.id) i.refusal _ (simp some (rw i.place.0 at c.mark.ensures))
+
+pub returns-in-Err : goal.returns-in-Err
+returns-in-Err c =
+    let a = c.args in
+    let w : World = record { array = a.array.now; map = a.map.now; hold = a.hold.now; state = a.s } in
+    refuses_why w (commit a.id) _ c.in-Err.ensures.refusal _ _ c.refused.ensures

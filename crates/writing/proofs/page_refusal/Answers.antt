@@ -1,16 +1,47 @@
 -- `writing::page_refusal` meets its contract: the place, its pages, then the room for the page that it holds. Assumes that array and zone lists agree.
+use native.Mathlib.Omega.{arith}
 use borrow.Author.Tests.{le-leb, lt-leb}
+use Rattle.std.proofs.lemmas.Result.{err_from_is_err_and}
 use Rattle.model.specs.Order.{first_number}
+use Rattle.frame.proofs.Found.{found_index, found_none}
 use Rattle.writing.proofs.page_refusal.Goals as goal
 
-pub returns-then-i-ge-PLACES : goal.returns-then-i-ge-PLACES
+pub returns-in_err-i-clause-refusal : goal.returns-in_err-i-clause-refusal
 unfolding first_number
-returns-then-i-ge-PLACES c = simp (← c.place_of-i.ensures, le-leb _ _ c.if-i-ge-PLACES.true)
+returns-in_err-i-clause-refusal c =
+    let p = err_from_is_err_and c.from_residual.result c.from_residual.ensures.1 in
+    let f = found_none _ _ _ (rw c.place_of.ensures at c.in_err-i.ensures.value) in
+    rw (p.1, p.2, f.0, le-leb _ _ f.1)
 
-pub returns-then-p-ge-LONGEST_CHANGE : goal.returns-then-p-ge-LONGEST_CHANGE
-unfolding first_number
-returns-then-p-ge-LONGEST_CHANGE c = simp (← c.place_of-i.ensures, lt-leb _ _ c.if-i-ge-PLACES.false, le-leb _ _ c.if-p-ge-LONGEST_CHANGE.true)
+pub offset_bounds-s-i : goal.offset_bounds-s-i
+offset_bounds-s-i c =
+    let f = found_index _ _ _ (rw c.place_of.ensures at c.in_ok-i.ensures.value) in
+    omega arith
 
-pub returns : goal.returns
+pub bounds-s-i : goal.bounds-s-i
+bounds-s-i c =
+    let f = found_index _ _ _ (rw c.place_of.ensures at c.in_ok-i.ensures.value) in
+    omega arith
+
+pub returns-then-count-ge-LONGEST_CHANGE-clause-refusal : goal.returns-then-count-ge-LONGEST_CHANGE-clause-refusal
 unfolding first_number
-returns c = simp (← c.place_of-i.ensures, lt-leb _ _ c.if-i-ge-PLACES.false, lt-leb _ _ c.if-p-ge-LONGEST_CHANGE.false) c.room_refusal.ensures
+returns-then-count-ge-LONGEST_CHANGE-clause-refusal c =
+    let f = found_index _ _ _ (rw c.place_of.ensures at c.in_ok-i.ensures.value) in
+    simp (← f.0, lt-leb _ _ f.1, le-leb _ _ c.if-count-ge-LONGEST_CHANGE.true)
+
+pub returns-in_err-room_refusal-clause-refusal : goal.returns-in_err-room_refusal-clause-refusal
+unfolding first_number
+returns-in_err-room_refusal-clause-refusal c =
+    let f = found_index _ _ _ (rw c.place_of.ensures at c.in_ok-i.ensures.value) in
+    let p = err_from_is_err_and c.from_residual-in_err-room_refusal.result c.from_residual-in_err-room_refusal.ensures.1 in
+    rw (p.1, p.2) (simp (← f.0, lt-leb _ _ f.1, lt-leb _ _ c.if-count-ge-LONGEST_CHANGE.false) c.in_err-room_refusal.ensures)
+
+pub returns-clause-refusal : goal.returns-clause-refusal
+unfolding first_number
+returns-clause-refusal c =
+    let f = found_index _ _ _ (rw c.place_of.ensures at c.in_ok-i.ensures.value) in
+    simp (← f.0, lt-leb _ _ f.1, lt-leb _ _ c.if-count-ge-LONGEST_CHANGE.false) c.in_ok-room_refusal.ensures
+
+pub returns-clause-place : goal.returns-clause-place
+returns-clause-place c =
+    found_index _ _ _ (rw c.place_of.ensures at c.in_ok-i.ensures.value)

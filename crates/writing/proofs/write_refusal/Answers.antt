@@ -1,36 +1,36 @@
--- `writing::write_refusal` meets its contract: the gate first (`gate_first`, `gate_passed`), the length, then the others. Assumes nothing.
+-- `writing::write_refusal` meets its contract: the gate first (`gate_first`, `gate_rest`), the length, then the others. Assumes nothing.
 use mathlib.Core.Bool.{false}
+use borrow.Author.Tests.{eq-eqb, ne_eqb}
+use Rattle.std.proofs.lemmas.Result.{err_from_is_err_and}
 use Rattle.model.specs.World.{World}
 use Rattle.model.specs.Order.{first_number}
-use Rattle.frame.proofs.Gates.{gate_first, gate_passed}
-use borrow.Author.Tests.{eq-eqb, ne_eqb}
+use Rattle.frame.proofs.Gates.{gate_first, gate_frame, gate_rest}
 use Rattle.change.proofs.Framed.{frame_in}
 use Rattle.writing.proofs.write_refusal.Goals as goal
 
-pub returns-then-n-ne0 : goal.returns-then-n-ne0
-returns-then-n-ne0 c =
+pub returns-in_err-gate-clause-refusal : goal.returns-in_err-gate-clause-refusal
+returns-in_err-gate-clause-refusal c =
     let a = c.args in
     let w : World = record { array = a.array.now; map = a.map.now; hold = a.hold.now; state = a.s } in
-    gate_first w false _ _ c.gate-n.ensures c.if-n-ne0.true
+    let p = err_from_is_err_and c.from_residual.result c.from_residual.ensures.1 in
+    rw (p.1, p.2) (gate_first false w _ _ c.in_err-gate.ensures)
 
-pub returns-then-data-ne-DATA : goal.returns-then-data-ne-DATA
+pub returns-then-data-ne-DATA-clause-refusal : goal.returns-then-data-ne-DATA-clause-refusal
 unfolding first_number
-returns-then-data-ne-DATA c =
+returns-then-data-ne-DATA-clause-refusal c =
     let a = c.args in
     let w : World = record { array = a.array.now; map = a.map.now; hold = a.hold.now; state = a.s } in
-    let p = gate_passed w false _ c.gate-n.ensures c.if-n-ne0.false in
-    simp (p.0, p.1, ne_eqb _ _ c.if-data-ne-DATA.true)
+    rw (gate_rest false w c.in_ok-gate.ensures, ne_eqb _ _ c.if-data-ne-DATA.true)
 
 pub add_refusal-requires : goal.add_refusal-requires
 add_refusal-requires c =
     let a = c.args in
     let w : World = record { array = a.array.now; map = a.map.now; hold = a.hold.now; state = a.s } in
-    (frame_in a.s a.array.now a.map.now a.hold.now (gate_passed w false _ c.gate-n.ensures c.if-n-ne0.false).0).ready
+    (frame_in a.s a.array.now a.map.now a.hold.now (gate_frame false w c.in_ok-gate.ensures)).ready
 
-pub returns : goal.returns
+pub returns-clause-refusal : goal.returns-clause-refusal
 unfolding first_number
-returns c =
+returns-clause-refusal c =
     let a = c.args in
     let w : World = record { array = a.array.now; map = a.map.now; hold = a.hold.now; state = a.s } in
-    let p = gate_passed w false _ c.gate-n.ensures c.if-n-ne0.false in
-    simp (p.0, p.1, eq-eqb _ _ c.if-data-ne-DATA.false) c.add_refusal.ensures
+    rw (gate_rest false w c.in_ok-gate.ensures, eq-eqb _ _ c.if-data-ne-DATA.false) c.add_refusal.ensures.refusal

@@ -1,5 +1,5 @@
 -- `zerotable::text` meets its contract. The loop's invariant: the lines put and those from value x on are all. Assumes nothing.
-use mathlib.Core.Path.{refl, sym, ap}
+use mathlib.Core.Path.{refl, sym, ap, ◌∙◌}
 use mathlib.Core.List.{[]}
 use native.Mathlib.Omega.{arith}
 use lib.Seq.{length-take-le}
@@ -11,22 +11,13 @@ use Rattle.zerotable.proofs.text.Goals as goal
 pub loop-x-init : goal.loop-x-init
 loop-x-init c = (omega arith, (omega arith, (omega arith, refl)))
 
-pub overflow_cast-x : goal.overflow_cast-x
-overflow_cast-x c = omega arith
-
 pub number_line-end-requires : goal.number_line-end-requires
 number_line-end-requires c = omega arith
-
-pub overflow_add-x : goal.overflow_add-x
-overflow_add-x c = omega arith
-
-pub loop-x-smaller : goal.loop-x-smaller
-loop-x-smaller c = omega arith
 
 pub loop-x-preserved : goal.loop-x-preserved
 loop-x-preserved c =
     let p = c.number_line-end.ensures in
-    (omega arith, (omega (arith, p.far), (omega (arith, p.far, p.same), lines_again _ c.loop-x-test.true c.loop-x.invariant.1.1.1 (put_is (ap (number_line []) c.zero_count.ensures) p))))
+    (omega arith, (omega (arith, p.far), (omega (arith, p.far, p.same), lines_again _ c.loop-x-test.true c.loop-x.invariant.1.1.1 (put_is (ap (number_line []) (c.from.ensures ∙ c.zero_count.ensures)) p))))
 
 pub returns : goal.returns
 returns c =

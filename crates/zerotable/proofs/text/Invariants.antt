@@ -9,6 +9,3 @@ use Rattle.zerotable.proofs.text.Given as goal
 
 abbrev pub invariant-loop-x : goal.invariant-loop-x
 invariant-loop-x l = (l.x ≤ 256) × ((l.end ≤ 21 * l.x) × ((l.end ≤ length l.out) × (take l.end l.out ++ lines_of (counts l.x (256 - l.x)) ≡ lines_of (counts 0 256))))
-
-abbrev pub decreases-loop-x : goal.decreases-loop-x
-decreases-loop-x l = 256 - l.x

@@ -1,50 +1,27 @@
--- `zones::block_torn` meets its contract. The loop's invariant: the torn pages counted with those of the rest are all. Assumes nothing.
-use mathlib.Core.Path.{sym, ◌∙◌}
-use Prim.Native.Nat.{◌≤◌}
+-- `zones::block_torn` meets its contract: the pages of the block, one after the other. Assumes nothing.
+use mathlib.Core.Path.{◌≡◌, ◌∙◌}
+use Prim.Native.Nat.{ℕ, ◌*◌}
 use native.Mathlib.Omega.{arith}
-use Rattle.zones.proofs.Torn.{rest_start, rest_torn, rest_other, rest_end}
+use lib.ListN.{length}
+use borrow.Author.Rules.{rules}
+use borrow.Author.Tests.{tests}
+use Rattle.std.specs.Prelude.{filter, count_by}
+use Rattle.std.specs.List.{range_with_len}
+use Rattle.std.proofs.lemmas.List.Sums.{length-filter, count_by-le-length}
+use Rattle.std.proofs.lemmas.List.FromFn.{length-range_with_len}
+use Rattle.std.proofs.lemmas.Iterator.{YieldsList-from_range}
+use Rattle.std.proofs.lemmas.Iterator.Consumers.{YieldsList-from_filter, count_from_yields_List}
+use Rattle.model.specs.Page.{torn_at}
+use Rattle.zones.proofs.Torn.{pages_torn}
 use Rattle.zones.proofs.block_torn.Goals as goal
-use Rattle.zones.proofs.block_torn.Goals.{then-is_torn, else-is_torn}
-
-pub first_page-first-requires : goal.first_page-first-requires
-first_page-first-requires c =
-    let w = c.requires.1 in
-    (omega arith, omega arith)
-
-pub loop-j-init : goal.loop-j-init
-loop-j-init c =
-    let a = c.args in
-    let r = rest_start a.array.now c.first_page-first.result a.pages in
-    (omega arith, (omega arith, omega arith))
-
-pub overflow_add-first : goal.overflow_add-first
-overflow_add-first c = omega arith
-
-pub is_torn-requires : goal.is_torn-requires
-is_torn-requires c = omega arith
-
-pub overflow_add-torn : goal.overflow_add-torn
-overflow_add-torn c = omega arith
-
-pub overflow_step-j : goal.overflow_step-j
-overflow_step-j c = omega arith
-
-pub loop-j-smaller : goal.loop-j-smaller
-loop-j-smaller c = omega arith
-
-pub loop-j-preserved : goal.loop-j-preserved
-loop-j-preserved c =
-    let xs = c.args.array.now in
-    let n = c.args.pages in
-    let e = c.is_torn.ensures in
-    elim c.if-is_torn.branch [
-      | then-is_torn w ↦ (omega arith, (omega arith, (let r = rest_torn xs c.first_page-first.result n c.loop-j.j c.loop-j-test.true (sym e ∙ w.if-is_torn.true) in omega (arith, c.loop-j.invariant.1.1, w.torn-is))))
-      | else-is_torn w ↦ (omega arith, (omega arith, (let r = rest_other xs c.first_page-first.result n c.loop-j.j c.loop-j-test.true (sym e ∙ w.if-is_torn.false) in omega (arith, c.loop-j.invariant.1.1, w.torn-is))))
-    ]
 
 pub returns : goal.returns
 returns c =
     let a = c.args in
-    let r = rest_end a.array.now c.first_page-first.result a.pages c.loop-j.j c.loop-j-test.false in
-    let j : c.loop-j.j ≤ a.pages = c.loop-j.invariant.0 in
-    rw (← c.first_page-first.ensures) (omega (arith, c.loop-j.invariant.1.1), omega (arith, c.loop-j.invariant.1.0))
+    let first : ℕ = a.b * a.pages in
+    let n : c.count.result ≡ length (filter (torn_at a.array.now) (range_with_len first a.pages)) =
+    count_from_yields_List _ _ c.count.ensures.ran (YieldsList-from_filter _ (torn_at a.array.now) (YieldsList-from_range first _ a.pages c.filter.ensures.source (omega arith)) c.filter.ensures.closure (λ x b q k. search (rules, tests))) in
+    let k : length (filter (torn_at a.array.now) (range_with_len first a.pages)) ≡ count_by (torn_at a.array.now) (range_with_len first a.pages) = length-filter (torn_at a.array.now) (range_with_len first a.pages) in
+    let m = count_by-le-length (torn_at a.array.now) (range_with_len first a.pages) in
+    let l = length-range_with_len first a.pages in
+    (n ∙ k ∙ pages_torn (torn_at a.array.now) first a.pages, omega arith)

@@ -1,26 +1,25 @@
--- `zones::id_in` meets its contract. The loop's invariant: no whole page of the blocks before the `i`-th has the identifier. Assumes nothing.
-use mathlib.Core.Path.{refl, sym, ◌∙◌}
-use native.Mathlib.Omega.{arith}
-use Rattle.zones.proofs.Pages.{block_hit, block_more, block_end}
+-- `zones::id_in` meets its contract: the blocks, one after the other. Assumes nothing.
+use mathlib.Core.Path.{◌≡◌, ◌∙◌}
+use Prim.Native.Nat.{ℕ, ◌*◌}
+use borrow.Author.Rules.{rules}
+use borrow.Author.Tests.{tests}
+use Rattle.std.proofs.lemmas.Iterator.{YieldsList-from_slice}
+use Rattle.std.proofs.lemmas.Iterator.Search.{any_from_yields_List}
+use Rattle.std.proofs.lemmas.Iterator.Adapters.{serves_from_places}
+use Rattle.std.proofs.lemmas.Grind.{get_or_default_zero}
+use lib.ListN.{get_or}
+use Rattle.model.specs.Zones.{on_pages, whole_from}
+use Rattle.zones.proofs.Pages.{ids_in_any}
 use Rattle.zones.proofs.id_in.Goals as goal
 
-pub loop-i-init : goal.loop-i-init
-loop-i-init c = (omega arith, (refl, refl))
-
-pub block_has_id-requires : goal.block_has_id-requires
-block_has_id-requires c = (omega arith, c.requires.each c.loop-i.i (omega arith))
-
-pub returns-then-block_has_id : goal.returns-then-block_has_id
-returns-then-block_has_id c = sym (block_hit _ _ _ c.args.bs.now c.loop-i.i c.loop-i.invariant.1.1 (omega arith) (sym c.block_has_id.ensures ∙ c.if-block_has_id.true))
-
-pub overflow_step-i : goal.overflow_step-i
-overflow_step-i c = omega arith
-
-pub loop-i-smaller : goal.loop-i-smaller
-loop-i-smaller c = omega arith
-
-pub loop-i-preserved : goal.loop-i-preserved
-loop-i-preserved c = (omega arith, (c.loop-i.invariant.1.0, block_more _ _ _ c.args.bs.now c.loop-i.i c.loop-i.invariant.1.1 (omega arith) (sym c.block_has_id.ensures ∙ c.if-block_has_id.false)))
+pub any-requires-clause-callable : goal.any-requires-clause-callable
+any-requires-clause-callable c = serves_from_places (YieldsList-from_slice _ c.iter.ensures.rest) (λ x q r. search rules) (λ x k h e.
+    let v : x.now ≡ get_or c.args.bs.now k 0 = e ∙ get_or_default_zero c.args.bs.now k x.now h in
+    let w = rw (← v) at (c.requires.each k h) in
+    search rules)
 
 pub returns : goal.returns
-returns c = sym (block_end _ _ _ c.args.bs.now c.loop-i.i c.loop-i.invariant.1.1 (omega arith))
+returns c =
+    let a = c.args in
+    any_from_yields_List (λ (b : ℕ). on_pages a.id (whole_from a.array.now (b * a.pages) a.pages)) _ _ _ c.any.ensures.ran (YieldsList-from_slice _ c.iter.ensures.rest) (λ x b q k. search (rules, tests))
+    ∙ ids_in_any a.id a.array.now a.pages a.bs.now

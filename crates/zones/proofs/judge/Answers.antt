@@ -1,47 +1,40 @@
--- `zones::judge` meets its contract. The loop's invariant: of the first `i` blocks, those that hold a page which is wanted stand behind the list. Assumes nothing.
-use mathlib.Core.Path.{refl}
-use mathlib.Core.List.{append-nil}
+-- `zones::judge` meets its contract. The loop's invariant: of the blocks before the next, those that hold a page which is wanted are listed. Assumes nothing.
+use mathlib.Core.Path.{sym, ap, ◌∙◌}
 use native.Mathlib.Omega.{arith}
+use lib.ListN.{length}
 use Rattle.model.specs.Lists.{those}
-use Rattle.blocks.specs.Blocks.{list_of}
-use Rattle.blocks.proofs.Kept.{kept_count}
 use Rattle.zones.specs.Judging.{holds_by}
-use Rattle.zones.proofs.Picks.{picks_few, picks_kept, picks_next, picks_end}
+use Rattle.zones.proofs.Picks.{few_more, picks_yes, picks_no, picks_all}
+use Rattle.zones.proofs.judge.Goals.{then-holds_wanted, else-holds_wanted}
 use Rattle.zones.proofs.judge.Goals as goal
 
-pub loop-i-init : goal.loop-i-init
+pub loop-b-init : goal.loop-b-init
 unfolding those
-loop-i-init c = (omega arith, (refl, rw append-nil c.requires.kept))
-
-pub bounds-bs-i : goal.bounds-bs-i
-bounds-bs-i c = omega arith
-
-pub overflow_cast-b : goal.overflow_cast-b
-overflow_cast-b c = omega (arith, c.type_inv.bs c.loop-i.i)
+loop-b-init c = c.none-kept.ensures
 
 pub holds_wanted-requires : goal.holds_wanted-requires
-holds_wanted-requires c = c.requires.listed.each c.loop-i.i (omega arith)
+holds_wanted-requires c = rw c.from.ensures (c.requires.each c.loop-b.b-index c.loop-b-test.true)
 
-pub with_if-kept-requires : goal.with_if-kept-requires
-with_if-kept-requires c =
+pub with-kept-requires : goal.with-kept-requires
+with-kept-requires c =
     let a = c.args in
-    let n = picks_few (holds_by a.array.now a.pages a.ids a.near.now) (list_of a.out) a.bs.now c.loop-i.i _ c.loop-i.invariant.1.1 (omega arith) in
-    let k = kept_count a.out (list_of a.out) c.requires.kept in
-    let b = c.requires.space in
-    (omega arith, picks_kept (holds_by a.array.now a.pages a.ids a.near.now) (list_of a.out) a.bs.now c.loop-i.i _ c.loop-i.invariant.1.1)
+    let f = few_more (holds_by a.array.now a.pages a.ids a.near.now) a.bs.now c.loop-b.b-index c.loop-b-test.true in
+    let e = ap length c.loop-b.invariant in
+    let n = c.requires.few in
+    omega arith
 
-pub overflow_step-i : goal.overflow_step-i
-overflow_step-i c = omega arith
-
-pub loop-i-smaller : goal.loop-i-smaller
-loop-i-smaller c = omega arith
-
-pub loop-i-preserved : goal.loop-i-preserved
-loop-i-preserved c =
+pub loop-b-preserved : goal.loop-b-preserved
+loop-b-preserved c =
     let a = c.args in
-    (omega arith, (c.loop-i.invariant.1.0, picks_next (holds_by a.array.now a.pages a.ids a.near.now) (list_of a.out) a.bs.now c.loop-i.i _ c.loop-i.invariant.1.1 _ c.holds_wanted.ensures _ c.with_if-kept.ensures (omega arith)))
+    let q = holds_by a.array.now a.pages a.ids a.near.now in
+    let i = c.loop-b.b-index in
+    let t = rw c.from.ensures at (sym c.holds_wanted.ensures) in
+    elim c.if-holds_wanted.branch [
+      | then-holds_wanted w ↦ picks_yes q a.bs.now i c.loop-b-test.true _ _ c.loop-b.invariant (t ∙ w.if-holds_wanted.true) (w.kept-is ∙ w.with-kept.ensures)
+      | else-holds_wanted w ↦ w.kept-is ∙ picks_no q a.bs.now i c.loop-b-test.true _ c.loop-b.invariant (t ∙ w.if-holds_wanted.false)
+    ]
 
 pub returns : goal.returns
 returns c =
     let a = c.args in
-    picks_end (holds_by a.array.now a.pages a.ids a.near.now) (list_of a.out) a.bs.now c.loop-i.i _ c.loop-i.invariant.1.1 (omega arith)
+    picks_all (holds_by a.array.now a.pages a.ids a.near.now) a.bs.now c.loop-b.b-index _ c.loop-b-test.false c.loop-b.invariant

@@ -1,57 +1,47 @@
--- `zones::list_block` meets its contract. The loop's invariant: what is listed, with the identifiers of the pages from the `j`-th on, is
--- the whole list. Assumes nothing.
+-- `zones::list_block` meets its contract. The loop's invariant: the identifiers of the pages before `k` are listed. Assumes nothing.
+use mathlib.Core.Path.{◌≡◌, sym, ap, ◌∙◌}
+use Prim.Native.Nat.{ℕ, ◌-◌, ◌*◌}
 use native.Mathlib.Omega.{arith}
-use lib.ListN.{take, length-set}
-use Rattle.zones.proofs.Near.{pages_unlisted, page_skipped, page_listed, pages_listed}
-use borrow.Author.Rules.{rules}
+use lib.ListN.{length, length-append}
+use Rattle.model.specs.Zones.{whole_from}
+use Rattle.zones.specs.Judging.{ids_in}
+use Rattle.zones.proofs.Near.{no_page, page_gives, page_gives_none, pages_few, no_id, not_whole, one_id}
+use Rattle.zones.proofs.list_block.Goals.{then-id-ne0+then-is_whole, else-id-ne0, else-id-ne0-via-then-id-ne0+else-is_whole, else-id-ne0-via-else-id-ne0}
 use Rattle.zones.proofs.list_block.Goals as goal
 
-pub first_page-first-requires : goal.first_page-first-requires
-first_page-first-requires c =
-    let w = c.requires.0.1 in
-    (omega arith, omega arith)
+pub loop-k-init : goal.loop-k-init
+loop-k-init c = let a = c.args in no_page a.array.now (a.b * a.pages) a.near.now
 
-pub loop-j-init : goal.loop-j-init
-loop-j-init c =
+pub push-requires : goal.push-requires
+push-requires c =
     let a = c.args in
-    (search rules, (search rules, (search rules, pages_unlisted a.array.now c.first_page-first.result a.pages (take a.n a.near.now))))
+    let first : ℕ = a.b * a.pages in
+    let n = pages_few a.array.now first (c.loop-k.k - first) in
+    let l = length-append a.near.now (ids_in (whole_from a.array.now first (c.loop-k.k - first))) in
+    let e = ap length c.loop-k.invariant in
+    let r = c.requires.1 in
+    let k = c.loop-k.auto.k in
+    omega arith
 
-pub overflow_add-first : goal.overflow_add-first
-overflow_add-first c = omega arith
-
-pub id_at-id-requires : goal.id_at-id-requires
-id_at-id-requires c = omega arith
-
-pub overflow_step-j : goal.overflow_step-j
-overflow_step-j c = omega arith
-
-pub loop-j-smaller-then-id-eq0 : goal.loop-j-smaller-then-id-eq0
-loop-j-smaller-then-id-eq0 c = omega arith
-
-pub loop-j-preserved-then-id-eq0 : goal.loop-j-preserved-then-id-eq0
-loop-j-preserved-then-id-eq0 c =
-    let l = c.loop-j in
-    (omega arith, (omega arith, (omega arith, page_skipped _ _ _ l.j _ _ l.m l.invariant.1.1.1 (omega arith) _ c.id_at-id.ensures c.if-id-eq0.true)))
-
-pub offset_bounds-near-m : goal.offset_bounds-near-m
-offset_bounds-near-m c = omega arith
-
-pub bounds-near-m : goal.bounds-near-m
-bounds-near-m c = omega arith
-
-pub overflow_add-m : goal.overflow_add-m
-overflow_add-m c = omega arith
-
-pub overflow_step-j-in-loop-j : goal.overflow_step-j-in-loop-j
-overflow_step-j-in-loop-j c = omega arith
-
-pub loop-j-smaller : goal.loop-j-smaller
-loop-j-smaller c = omega arith
-
-pub loop-j-preserved : goal.loop-j-preserved
-loop-j-preserved c =
-    let l = c.loop-j in
-    (omega arith, (omega arith, (simp length-set (search rules), page_listed _ _ _ l.j _ _ l.m l.invariant.1.1.1 (omega arith) _ c.id_at-id.ensures c.if-id-eq0.false (omega arith))))
+pub loop-k-preserved : goal.loop-k-preserved
+loop-k-preserved c =
+    let xs = c.args.array.now in
+    let first : ℕ = c.args.b * c.args.pages in
+    let k = c.loop-k.k in
+    let low = c.loop-k.auto.k in
+    let s = c.spare_at-id.ensures in
+    elim c.if-id-ne0.branch [
+      | then-id-ne0+then-is_whole w ↦ w.near-is ∙ page_gives xs first k low _ _ c.loop-k.invariant _ (one_id xs k _ s w.if-id-ne0.true (sym w.is_whole.ensures ∙ w.if-is_whole.true)) _ w.push.ensures
+      | else-id-ne0 w ↦
+          w.near-is ∙ page_gives_none xs first k low _ _ c.loop-k.invariant (elim w.else-id-ne0.branch [
+            | else-id-ne0-via-then-id-ne0+else-is_whole v ↦ not_whole xs k _ s (sym v.is_whole.ensures ∙ v.if-is_whole.false)
+            | else-id-ne0-via-else-id-ne0 v ↦ no_id xs k _ s v.if-id-ne0.false
+          ])
+    ]
 
 pub returns : goal.returns
-returns c = rw (← c.first_page-first.ensures) (pages_listed _ _ _ c.loop-j.j _ _ c.loop-j.invariant.1.1.1 (omega arith), omega arith)
+returns c =
+    let a = c.args in
+    let h = c.loop-k.auto.k-end in
+    let n : c.loop-k.k - a.b * a.pages ≡ a.pages = omega arith in
+    rw n at c.loop-k.invariant

@@ -1,0 +1,6 @@
+-- `Table::eights_ones` meets its contract: what was added is worth its ones. Assumes nothing.
+use native.Mathlib.Omega.{arith}
+use Rattle.table.proofs.Table.eights_ones.Goals as goal
+
+pub returns : goal.returns
+returns c = (omega arith, omega arith)

@@ -1,7 +1,0 @@
--- `table::add3` meets its contract: by the law of three words (`three`). Assumes nothing.
-use borrow.Author.Rules.{rules}
-use Rattle.table.proofs.Sums.{three}
-use Rattle.table.proofs.add3.Goals as goal
-
-pub returns : goal.returns
-returns c = three 64 c.args.a c.args.b c.args.c (search rules) (search rules) (search rules)
