@@ -11,7 +11,7 @@ use Rattle.model.specs.Lists.{all, all_tails, all_heads}
 
 module _ {A : Type 0} where
   -- every element passes
-  all_step : (p : A → Bool) (l : List A) (i : ℕ) (d : A) → i < length l → all p (drop i l) ≡ (p (get_or l i d) && all p (drop (i + 1) l))
+  pub all_step : (p : A → Bool) (l : List A) (i : ℕ) (d : A) → i < length l → all p (drop i l) ≡ (p (get_or l i d) && all p (drop (i + 1) l))
   unfolding all
   all_step p l i d h = rw (add-one, drop-cons l i d)
 

@@ -20,6 +20,8 @@ struct Rig<const N: usize> {
 }
 
 impl<const N: usize> Rig<N> {
+    // in the frame of its caller: it is not copied once more
+    #[inline(always)]
     fn new(geometry: Geometry) -> Rig<N> {
         Rig {
             geometry,
@@ -90,10 +92,10 @@ fn tell(rt: &impl Print, answer: Answer) -> io::Result<()> {
     print!(rt; " {}", answers::number(answer))
 }
 
-/// Formats an array, from the first stride to the one that does not answer more; a line with the answers.
-fn formatted<const N: usize>(rt: &impl Print, geometry: Geometry) -> io::Result<Rig<N>> {
+/// Formats the array, from the first stride to the one that does not answer more; a line with the answers.
+// the rig is lent here and below: one that is returned is copied on the way, and a quarter of a megabyte of stack with it
+fn format_all<const N: usize>(rt: &impl Print, rig: &mut Rig<N>) -> io::Result<()> {
     print!(rt; "format:")?;
-    let mut rig = Rig::new(geometry);
     for _ in 0..200u8 {
         let answer = rig.format();
         tell(rt, answer)?;
@@ -101,8 +103,7 @@ fn formatted<const N: usize>(rt: &impl Print, geometry: Geometry) -> io::Result<
             break;
         }
     }
-    println!(rt; "")?;
-    Ok(rig)
+    println!(rt; "")
 }
 
 /// Opens a change and writes pages to it until a write is not done; a line with the pages that went and the answer to the next.
@@ -134,15 +135,13 @@ fn keep<const N: usize>(rt: &impl Print, rig: &mut Rig<N>) -> io::Result<()> {
 /// Case l: the 41st page goes, the 42nd answers 10; the change is committed and recovered.
 fn case_l(rt: &impl Print, planes: u16) -> io::Result<()> {
     println!(rt; "case l, planes: {planes}")?;
-    let mut rig: Rig<135168> = formatted(
-        rt,
-        Geometry {
-            blocks: 8,
-            pages: 32,
-            logical: 16,
-            planes,
-        },
-    )?;
+    let mut rig: Rig<135168> = Rig::new(Geometry {
+        blocks: 8,
+        pages: 32,
+        logical: 16,
+        planes,
+    });
+    format_all(rt, &mut rig)?;
     write_all(rt, &mut rig)?;
     keep(rt, &mut rig)
 }
@@ -151,15 +150,13 @@ fn case_l(rt: &impl Print, planes: u16) -> io::Result<()> {
 /// room beside the format's, and the next. The first byte of block 1 is made zero before, for the erase to be seen.
 fn case_m(rt: &impl Print) -> io::Result<()> {
     println!(rt; "case m")?;
-    let mut rig: Rig<33792> = formatted(
-        rt,
-        Geometry {
-            blocks: 8,
-            pages: 8,
-            logical: 16,
-            planes: 1,
-        },
-    )?;
+    let mut rig: Rig<33792> = Rig::new(Geometry {
+        blocks: 8,
+        pages: 8,
+        logical: 16,
+        planes: 1,
+    });
+    format_all(rt, &mut rig)?;
     rig.array[BLOCK_1] = 0;
     println!(rt; "after each stride: last checkpoint, answer, front block, first byte of block 1")?;
     for _ in 0..9u8 {

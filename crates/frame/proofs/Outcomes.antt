@@ -1,7 +1,7 @@
 -- What comes of a call, in one shape for all: the first of its checks that applies leaves the world as it was; where none does, its plan is carried out.
 -- Assumes nothing.
 use Prim.Native.Nat.{ℕ, ◌+◌, ◌≤◌, ◌<◌}
-use mathlib.Core.Path.{◌≡◌, refl, sym}
+use mathlib.Core.Path.{◌≡◌, refl, sym, ◌∙◌}
 use mathlib.Core.Logic.{inl, inr}
 use mathlib.Core.Bool.{true, false, cond}
 use mathlib.Core.List.{List}
@@ -10,7 +10,7 @@ use borrow.Author.Tests.{ne_eqb, lt-ltb, le-ltb}
 use native.Mathlib.Omega.{arith}
 use Rattle.model.specs.Lists.{all, those}
 use Rattle.model.specs.Geometry.{geometry_ok, lengths_ok}
-use Rattle.model.specs.Answers.{refusal_number}
+use Rattle.model.specs.Answers.{in_table, refusal_number}
 use Rattle.model.specs.World.{World, Plan, refuse, apply_op}
 use Rattle.model.specs.Order.{Check, first_number, leave_out, checked}
 use Rattle.model.specs.Frame.{lent_ok, frame_ok}
@@ -22,7 +22,7 @@ use Rattle.model.specs.declared.Refusal.{Refusal}
 use Rattle.model.specs.declared.State.{State}
 use Rattle.answers.proofs.Refusals.{refusal_some}
 use Rattle.arrays.specs.Tests.{Is, eqb_cases, and_left}
-use Rattle.arrays.specs.Order.{numbered, Unless, none_applies}
+use Rattle.arrays.specs.Order.{numbered, Unless, none_applies, first_known}
 use Rattle.arrays.specs.Frame.{frame_in}
 use Rattle.frame.specs.Lent.{Sized}
 
@@ -115,6 +115,10 @@ module _ (w : World) (c : Call) where
 pub refuses : (w : World) (c : Call) (n : ℕ) → n ≡ first_number (checks_of c w) → (n ≡ 0 → ⊥) → (m : ℕ) (t : State) → (m ≡ n) × (t ≡ w.state)
     → ◌≡◌ {A = Outcome} (record { answer = m; world = record { array = w.array; map = w.map; hold = w.hold; state = t } }) (exec c w)
 refuses w c n e z = refused_as w c n (rw (one_shape c w, ← e, ne_eqb n 0 z) refl)
+
+-- such a number stands in the table
+pub refusal_known : (w : World) (c : Call) (n : ℕ) → n ≡ first_number (checks_of c w) → (n ≡ 0 → ⊥) → in_table n ≡ true
+refusal_known w c n e z = rw e (first_known (checks_of c w) (all_numbered c w) (λ q. z (e ∙ q)))
 
 module _ (w : World) (c : Call) where
   -- the same of a refusal

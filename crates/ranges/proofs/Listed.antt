@@ -19,7 +19,7 @@ abbrev pub laid_ok : Geometry → List ℕ → ℕ → ℕ → ℕ → Bool
 laid_ok g l na nu p = zone_lists_ok g na nu (length l - (na + nu)) (take na l) (take nu (drop na l)) (drop (na + nu) l) p
 
 -- within the counts that the geometry allows, what is left to test
-laid_is : (g : Geometry) (l : List ℕ) (na nu p : ℕ) → Laid g l na nu
+pub laid_is : (g : Geometry) (l : List ℕ) (na nu p : ℕ) → Laid g l na nu
     → laid_ok g l na nu p ≡ (leb na 3 && (all_heads (new_block g) [] l && (rising (drop (na + nu) l) && data_block g p)))
 unfolding zone_lists_ok
 laid_is g l na nu p h =

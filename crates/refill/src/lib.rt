@@ -101,9 +101,10 @@ fn data_blocks(g: Geometry) -> Blocks
     requires { geometry_ok g ≡ true }
     ensures { result ≡ up_from 2 (g.blocks - 2) }
 {
+    // put in place: a list that goes from hand to hand is copied for each of its blocks
     let mut all = Blocks::none();
     for b in FIRST..g.blocks as u8 {
-        all = all.with(b);
+        all.push(b);
     }
     all
 }

@@ -115,23 +115,16 @@ fn put_cut(out: &mut [u8], at: usize, array: &[u8], cut: bool) -> usize
 }
 
 impl Rig {
-    /// A freshly formatted device.
-    fn formatted() -> Rig
-        ensures { world_of result ≡ fresh }
+    /// Formats the device.
+    fn format(&mut self)
+        ensures { world_of self.new ≡ strides small 10 (world_of self.old) }
     {
-        let mut rig = Rig {
-            array: [0; ARRAY],
-            map: [0; LOGICAL],
-            hold: [0; State::HOLD],
-            device: blank(),
-        };
         for _ in 0..STRIDES {
-            let r = rig
+            let r = self
                 .device
-                .format(&mut rig.array, &mut rig.map, &rig.hold, geometry());
-            rig.device = r.device;
+                .format(&mut self.array, &mut self.map, &self.hold, geometry());
+            self.device = r.device;
         }
-        rig
     }
 
     /// One command of a session, with the cuts before and after its program. Where it is refused nothing is put.
@@ -187,7 +180,13 @@ fn put_session(out: &mut [u8], at: usize, n: usize, k: usize) -> usize
     requires { (n ≤ 4) × (at + 3072 ≤ length out.old) }
     ensures { Put out.old at (keep (accepted (session n k) fresh) (line_of (session n k))) 3072 out.new result }
 {
-    let mut rig = Rig::formatted();
+    let mut rig = Rig {
+        array: [0; ARRAY],
+        map: [0; LOGICAL],
+        hold: [0; State::HOLD],
+        device: blank(),
+    };
+    rig.format();
     let list = session(n, k);
     let a = text::put_list(out, at, &list[..n]);
     match rig.turns(out, a, &list[..n]) {

@@ -26,7 +26,7 @@ byte_off x k m e =
     let s : y ≡ (y / 256) * 256 + y % 256 = omega arith in
     ap ones s ∙ ones_cat 8 (y / 256) (y % 256) (omega arith) ∙ ap (λ z. ones z + ones (y % 256)) e
 
-ones_word : (x : ℕ) → x < 18446744073709551616
+pub ones_word : (x : ℕ) → x < 18446744073709551616
     → ones x ≡ ones (x % 256) + ones (x / 256 % 256) + (ones (x / 65536 % 256) + ones (x / 16777216 % 256)) + (ones (x / 4294967296 % 256) + ones (x / 1099511627776 % 256) + (ones (x / 281474976710656 % 256) + ones (x / 72057594037927936 % 256)))
 ones_word x h =
     let all : x / 1 ≡ x = omega arith in

@@ -34,7 +34,7 @@ const ZEROS: [u8; 256] = *b"\
     \x04\x03\x03\x02\x03\x02\x02\x01\x03\x02\x02\x01\x02\x01\x01\x00";
 
 /// The table: the zero bits of each byte value, from 0 up.
-#[derive(Drop)]
+#[derive(Clone, Copy)]
 pub struct Table {
     zeros: [u8; 256],
     ghost counted: { zeros ≡ counts 0 256 },
@@ -182,6 +182,20 @@ impl Table {
     /// The table that the library carries.
     pub fn new() -> Self {
         Table { zeros: ZEROS }
+    }
+
+    /// The table of a caller's own numbers.
+    pub fn of(zeros: [u8; 256]) -> Self
+        requires { zeros ≡ counts 0 256 }
+    {
+        Table { zeros }
+    }
+
+    /// Its numbers.
+    pub fn numbers(self) -> [u8; 256]
+        ensures { result ≡ counts 0 256 }
+    {
+        self.zeros
     }
 
     /// The entry for a byte: what its ones leave of 8.

@@ -2,9 +2,10 @@
 use mathlib.Core.Path.{◌≡◌, sym, ap, ◌∙◌, subst}
 use mathlib.Core.List.{List, [], ◌∷◌, ◌++◌, append_assoc, append-nil}
 use Prim.Native.Nat.{ℕ, suc, ◌+◌, ◌*◌, ◌<◌}
+use native.Mathlib.Numerals.{add-one}
 use native.Mathlib.Omega.{arith}
-use lib.ListN.{length, take, get_or, length-append}
-use lib.Seq.{take-length, length-take-le}
+use lib.ListN.{length, take, drop, get_or, length-append}
+use lib.Seq.{take-length, length-take-le, drop-cons}
 use Rattle.std.specs.List.{AllZip, each_same}
 use Rattle.std.proofs.lemmas.List.{take_more}
 use Rattle.std.proofs.lemmas.Slice.Zip.{AllZip-long}
@@ -50,3 +51,13 @@ module _ {X : Type 0} (R : X → ℕ → Type 0) (xs : List X) where
 -- numbers put are their list
 pub put_listed : {a b : List ℕ} {at end : ℕ} (ns : List ℕ) → PutList (λ (x y : ℕ). y ≡ x) a at ns b end → Put a at (listed 0 ns) (21 * length ns) b end
 put_listed ns p = put_is (ap (listed 0) (each_same ns p.numbers p.are)) p.put
+
+-- number i of a list is put
+item_put : (ns : List ℕ) (i : ℕ) → i < length ns → listed i (drop i ns) ≡ comma i ++ decimal (get_or ns i 0) ++ listed (i + 1) (drop (i + 1) ns)
+unfolding listed
+item_put ns i h = rw (drop-cons ns i 0 h, add-one)
+
+-- those put with those that are left are all: a turn keeps it
+pub listed_again : (ns all : List ℕ) {out out' : List ℕ} {i end end' m : ℕ} → i < length ns → take end out ++ listed i (drop i ns) ≡ all
+    → Put out end (comma i ++ decimal (get_or ns i 0)) m out' end' → take end' out' ++ listed (i + 1) (drop (i + 1) ns) ≡ all
+listed_again ns all {i = i} h e p = rw (p.is, append_assoc, ← item_put ns i h) e

@@ -19,8 +19,8 @@ pub loop-b-init : goal.loop-b-init
 unfolding up_from
 loop-b-init c = c.none-all.ensures
 
-pub with-all-requires : goal.with-all-requires
-with-all-requires c =
+pub push-requires : goal.push-requires
+push-requires c =
     let h = geometry_in c.args.g c.requires in
     let b = h.blocks_most in
     let l = ap length c.loop-b.invariant in
@@ -33,7 +33,7 @@ loop-b-preserved c =
     let e : b - 2 + 1 ≡ b + 1 - 2 = omega arith in
     let d : 2 + (b - 2) ≡ b = omega arith in
     let m : up_from 2 (b - 2 + 1) ≡ up_from 2 (b - 2) ++ (b ∷ []) = rw d at (up_more 2 (b - 2)) in
-    c.with-all.ensures ∙ rw c.loop-b.invariant (sym m ∙ ap (up_from 2) e)
+    c.push.ensures ∙ rw c.loop-b.invariant (sym m ∙ ap (up_from 2) e)
 
 pub returns : goal.returns
 returns c =

@@ -5,6 +5,7 @@ use lib.ListN.{length}
 use Rattle.model.specs.Sessions.{Commands}
 use Rattle.text.proofs.Lists.{put_listed}
 use Rattle.sessions.specs.Listed.{session_long, session_commands}
+use Rattle.sessions.proofs.Formats.{formatted}
 use Rattle.sessions.proofs.Lines.{line_put, no_line}
 use Rattle.sessions.proofs.put_session.Goals as goal
 
@@ -24,9 +25,9 @@ put-requires c =
 pub returns-in-Some : goal.returns-in-Some
 returns-in-Some c =
     let long = ap length c.session-list.ensures ∙ session_long c.args.n c.args.k in
-    line_put _ _ _ _ c.session-list.ensures c.formatted-rig.ensures c.in-Some.ensures.0 refl (put_listed _ c.put_list-a.ensures)
+    line_put _ _ _ _ c.session-list.ensures (formatted _ c.blank.ensures c.format.ensures) c.in-Some.ensures.0 refl (put_listed _ c.put_list-a.ensures)
     c.in-Some.ensures.1 c.put.ensures (omega (arith, c.requires.0, long))
 
 pub returns-in-None : goal.returns-in-None
 returns-in-None c =
-    no_line _ _ _ _ c.session-list.ensures c.formatted-rig.ensures c.in-None.ensures.0 refl (omega (arith, c.requires.1)) (put_listed _ c.put_list-a.ensures) c.in-None.ensures.1
+    no_line _ _ _ _ c.session-list.ensures (formatted _ c.blank.ensures c.format.ensures) c.in-None.ensures.0 refl (omega (arith, c.requires.1)) (put_listed _ c.put_list-a.ensures) c.in-None.ensures.1
