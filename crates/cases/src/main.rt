@@ -93,7 +93,7 @@ fn tell(rt: &impl Print, answer: Answer) -> io::Result<()> {
 }
 
 /// Formats the array, from the first stride to the one that does not answer more; a line with the answers.
-// the rig is lent here and below: one that is returned is copied on the way, and a quarter of a megabyte of stack with it
+// the rig is lent here and below: one that is returned is copied at each step, and the stack is nearly four times as deep
 fn format_all<const N: usize>(rt: &impl Print, rig: &mut Rig<N>) -> io::Result<()> {
     print!(rt; "format:")?;
     for _ in 0..200u8 {
